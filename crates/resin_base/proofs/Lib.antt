@@ -1,0 +1,7 @@
+pub mod CallNumbers
+pub mod Find
+pub mod Telling
+pub mod Taking
+pub mod RowLists
+pub mod TablePlaces
+pub mod Wholeness

@@ -1,0 +1,10 @@
+pub mod Causes
+pub mod Contents
+pub mod FileStore
+pub mod TableStore
+pub mod Moves
+pub mod Numbering
+pub mod Tallies
+pub mod Places
+pub mod Codes
+pub mod Fakes
