@@ -1,0 +1,180 @@
+//! A folder of files, whose shadow texts stand in sibling files.
+ghost use Rattle.std.specs.Prelude.{◌≡◌};
+ghost use Rattle.resin_base.specs.Causes.{HasCause};
+
+use resin_base::{Bytes, Entry, Files, KeepFault};
+use std::alloc::{AllocError, Global};
+use std::io::ErrorKind;
+use std::rt::Files as SystemFiles;
+use std::{fs, io};
+
+/// A folder of the system as a keeper of files. The path `a/b` is kept in `root/a/b` and its shadow text in `root/.resin/a/b`, which is
+/// written first. A folder that isn't there reads as empty, and missing folders are made by a write. A stop of the process between
+/// the two writes isn't covered.
+#[derive(Drop)]
+pub struct Folder<R: SystemFiles + AllocGlobal + Drop> {
+    rt: R,
+    root: String,
+    faults: u64,
+}
+
+// Which fault an error of the system is.
+fn fault_of(error: io::Error) -> KeepFault {
+    match error.kind() {
+        ErrorKind::OutOfMemory => KeepFault::Memory,
+        _ => KeepFault::Failed,
+    }
+}
+
+// A missing file is no fault, nor is a folder where a file is asked for.
+fn unless_missing<T: Drop>(answer: io::Result<T>) -> Result<Option<T>, KeepFault> {
+    match answer {
+        Ok(value) => Ok(Some(value)),
+        Err(error) => match error.kind() {
+            ErrorKind::NotFound | ErrorKind::NotADirectory | ErrorKind::IsADirectory => Ok(None),
+            _ => Err(fault_of(error)),
+        },
+    }
+}
+
+// The folder that holds a file.
+fn parent(path: &str) -> &str {
+    match path.rsplit_once('/') {
+        Some((front, _)) => front,
+        None => path,
+    }
+}
+
+impl<R: SystemFiles + AllocGlobal + Drop> Folder<R> {
+    /// The folder at a path of the system. It need not be there yet.
+    pub fn new(alloc: Global, rt: R, root: &str) -> Result<Folder<R>, AllocError> {
+        Ok(Folder {
+            rt,
+            root: String::from_str(alloc, root)?,
+            faults: 0,
+        })
+    }
+
+    // The system's path. Bytes that are no text are no path of the system.
+    fn place(&self, inner: &str, path: &[u8]) -> Result<String, KeepFault> {
+        let Ok(text) = str::from_utf8(path) else {
+            return Err(KeepFault::Failed);
+        };
+        let root = self.root.as_str();
+        Ok(format!(in self.rt.alloc(); "{root}/{inner}{text}")?)
+    }
+
+    fn load(&self, place: &str) -> Result<Option<Bytes>, KeepFault> {
+        match unless_missing(fs::read(&self.rt, place))? {
+            Some(bytes) => Ok(Some(Bytes::from_slice(self.rt.alloc(), bytes.as_slice())?)),
+            None => Ok(None),
+        }
+    }
+
+    fn keep(&self, place: &str, bytes: &[u8]) -> Result<(), KeepFault> {
+        fs::create_dir_all(&self.rt, parent(place)).map_err(fault_of)?;
+        fs::write(&self.rt, place, bytes).map_err(fault_of)
+    }
+
+    fn read_entry(&self, path: &[u8]) -> Result<Option<Entry>, KeepFault> {
+        let Some(bytes) = self.load(self.place("", path)?.as_str())? else {
+            return Ok(None);
+        };
+        let shadow = match self.load(self.place(".resin/", path)?.as_str())? {
+            Some(shadow) => shadow,
+            None => Bytes::new(self.rt.alloc()),
+        };
+        Ok(Some(Entry { bytes, shadow }))
+    }
+
+    fn write_entry(&self, path: &[u8], bytes: &[u8], shadow: &[u8]) -> Result<(), KeepFault> {
+        self.keep(self.place(".resin/", path)?.as_str(), shadow)?;
+        self.keep(self.place("", path)?.as_str(), bytes)
+    }
+
+    fn remove_entry(&self, path: &[u8]) -> Result<bool, KeepFault> {
+        let place = self.place("", path)?;
+        let was = unless_missing(fs::remove_file(&self.rt, place.as_str()))?.is_some();
+        let shadow = self.place(".resin/", path)?;
+        unless_missing(fs::remove_file(&self.rt, shadow.as_str()))?;
+        Ok(was)
+    }
+
+    fn has_entry(&self, path: &[u8]) -> Result<bool, KeepFault> {
+        let place = self.place("", path)?;
+        let found = unless_missing(fs::metadata(&self.rt, place.as_str()))?;
+        Ok(found.is_some_and(|metadata| metadata.is_file()))
+    }
+
+    // Counts a call's fault.
+    fn counted<T>(&mut self, answer: Result<T, KeepFault>) -> Result<T, KeepFault>
+        ensures same { result ≡ answer }
+        ensures cause { HasCause self.old.faults self.new.faults result }
+    {
+        if let Err(KeepFault::Failed) = &answer {
+            self.faults = self.faults.saturating_add(1);
+        }
+        answer
+    }
+}
+
+impl<R: SystemFiles + AllocGlobal + Drop> Files for Folder<R> {
+    ghost use Rattle.std.specs.Prelude.{None};
+
+    ghost stored = { λ _. None };
+
+    ghost faults = { λ f. f.faults };
+
+    ghost answers = { λ _. None };
+
+    fn read(&mut self, path: &[u8]) -> Result<Option<Entry>, KeepFault> {
+        let answer = self.read_entry(path);
+        self.counted(answer)
+    }
+
+    fn write(&mut self, path: &[u8], bytes: &[u8], shadow: &[u8]) -> Result<(), KeepFault> {
+        let answer = self.write_entry(path, bytes, shadow);
+        self.counted(answer)
+    }
+
+    fn remove(&mut self, path: &[u8]) -> Result<bool, KeepFault> {
+        let answer = self.remove_entry(path);
+        self.counted(answer)
+    }
+
+    fn exists(&mut self, path: &[u8]) -> Result<bool, KeepFault> {
+        let answer = self.has_entry(path);
+        self.counted(answer)
+    }
+}
+
+#[cfg(test)]
+mod tests {
+    use super::*;
+    use std::test::Fail;
+
+    #[test]
+    fn keeps_entries_and_their_shadows(rt: HostRuntime) -> Result<(), Fail> {
+        let mut folder = Folder::new(rt.alloc(), rt.clone()?, "resin_edge_folder")?;
+        assert_eq!(rt; folder.exists(b"a/b.txt"), Ok(false));
+        assert!(rt; matches!(folder.read(b"a/b.txt"), Ok(None)));
+        assert_eq!(rt; folder.write(b"a/b.txt", b"long text", b"shadow"), Ok(()));
+        assert_eq!(rt; folder.write(b"a/b.txt", b"text", b""), Ok(()));
+        match folder.read(b"a/b.txt") {
+            Ok(Some(entry)) => {
+                assert_eq!(rt; entry.bytes.as_slice(), b"text".as_slice());
+                assert_eq!(rt; entry.shadow.as_slice(), b"".as_slice());
+            }
+            _ => assert!(rt; false),
+        }
+        assert_eq!(rt; folder.exists(b"a/b.txt"), Ok(true));
+        // A folder is no file.
+        assert!(rt; matches!(folder.read(b"a"), Ok(None)));
+        assert_eq!(rt; folder.exists(b"a"), Ok(false));
+        assert_eq!(rt; folder.remove(b"a/b.txt"), Ok(true));
+        assert_eq!(rt; folder.remove(b"a/b.txt"), Ok(false));
+        assert!(rt; matches!(folder.read(b"\xff"), Err(KeepFault::Failed)));
+        fs::remove_dir_all(&rt, "resin_edge_folder")?;
+        Ok(())
+    }
+}
