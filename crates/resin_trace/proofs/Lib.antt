@@ -1,0 +1,11 @@
+pub mod Turns
+pub mod Stages
+pub mod Reading
+pub mod Words
+pub mod Existing
+pub mod Once
+pub mod Near
+pub mod Scanning
+pub mod Tailing
+pub mod Feeding
+pub mod Verdicts_of
