@@ -1,0 +1,5 @@
+pub mod FieldLemmas
+pub mod LineLemmas
+pub mod HeadLemmas
+pub mod StreamLemmas
+pub mod MarkLemmas

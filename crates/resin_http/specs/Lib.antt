@@ -1,0 +1,5 @@
+pub mod Head
+pub mod Fields
+pub mod Stream
+pub mod Steps
+pub mod Response
