@@ -1,0 +1,4 @@
+pub mod CallLemmas
+pub mod ContainsLemmas
+pub mod FindLemmas
+pub mod ServeLemmas
