@@ -1,0 +1,14 @@
+pub mod Runs
+pub mod Giving
+pub mod Causing
+pub mod Keeping
+pub mod Streams
+pub mod Line_runs
+pub mod Event_runs
+pub mod Request_kept
+pub mod Unsaid
+pub mod Ready_runs
+pub mod Serve_runs
+pub mod Wording
+pub mod Completing
+pub mod Cuttings

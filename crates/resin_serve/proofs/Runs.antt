@@ -1,0 +1,362 @@
+-- Runs go on.
+use Rattle.std.proofs.Common.{◌≡◌, ℕ, ◌+◌, ◌≤◌, true, false, cond, nat_eq, List, [], ◌∷◌, ◌++◌, length, Option, Some, None, refl, sym, ap, ◌∙◌, arith, append_assoc, length-append, inl, inr, subst}
+use Rattle.std.specs.Prelude.{⊤}
+use Rattle.std.proofs.lemmas.List.{append-nil}
+use Rattle.resin_serve.specs.declared.give.Given.{Given}
+use Rattle.resin_serve.specs.declared.give.Given.TheVariants.{Whole, Fault, Memory, NotYet}
+use Rattle.resin_site.specs.Keeping.{Store, St, WhereTold}
+use Rattle.resin_serve.specs.Meaning.{Meaning, Owed, tagged, reply, bytes_of, after_of}
+use Rattle.std.specs.declared.alloc.AllocError.{AllocError}
+use Rattle.std.specs.Prelude.{Ok, Err}
+use Rattle.resin_http.specs.Stream.{asks, refuses}
+use Rattle.resin_serve.specs.Gives.{GaveAll, three}
+use Rattle.resin_http.specs.declared.request.Request.{Request}
+use Rattle.resin_site.specs.declared.outcome.Outcome.{Outcome}
+use Rattle.resin_site.specs.declared.outcome.End.TheVariants.{NotYet as Unbuilt}
+use Rattle.resin_site.specs.Serving.{Served}
+use Rattle.resin_site.specs.Outcomes.{not_found, refusal_text}
+use Rattle.resin_site.specs.Paths.{path_of, is_open}
+use Rattle.resin_site.specs.Looks.{find}
+use Rattle.resin_site.specs.Replies as site
+use Rattle.resin_serve.specs.Asked.{is_unbuilt, recorded, meaning}
+use Rattle.resin_serve.specs.Records.{record_text}
+use Rattle.resin_serve.specs.Ran.{Grew, part, World, Gained, IsState, Giving, Before, Amid, Meeting, RanFrom, Ran}
+
+pub bytes_append : (R : Meaning) (K : List ℕ) (s : St) (n m : ℕ) (xs ys : List Owed) → m ≡ n + length xs
+    → bytes_of R K s n (xs ++ ys) ≡ bytes_of R K s n xs ++ bytes_of R K (after_of R K s n xs) m ys
+bytes_append R K s n m [] ys e = let f : n ≡ m = omega arith in ap (λ k. bytes_of R K s k ys) f
+bytes_append R K s n m (x ∷ xs) ys e =
+    ap (λ l. tagged (reply R K s n x) ++ l) (bytes_append R K (reply R K s n x).after (n + 1) m xs ys (omega arith))
+    ∙ sym (append_assoc (tagged (reply R K s n x)) _ _)
+
+pub after_append : (R : Meaning) (K : List ℕ) (s : St) (n m : ℕ) (xs ys : List Owed) → m ≡ n + length xs
+    → after_of R K s n (xs ++ ys) ≡ after_of R K (after_of R K s n xs) m ys
+after_append R K s n m [] ys e = let f : n ≡ m = omega arith in ap (λ k. after_of R K s k ys) f
+after_append R K s n m (x ∷ xs) ys e = after_append R K (reply R K s n x).after (n + 1) m xs ys (omega arith)
+
+pub part_append : (k : ℕ) (xs ys : List (ℕ × ℕ)) → part k (xs ++ ys) ≡ part k xs ++ part k ys
+part_append k [] ys = refl
+part_append k (x ∷ xs) ys =
+    elim (nat_eq x.0 k) as (λ b. cond b (x.1 ∷ part k (xs ++ ys)) (part k (xs ++ ys)) ≡ cond b (x.1 ∷ part k xs) (part k xs) ++ part k ys) [
+      | true ↦ ap (λ l. x.1 ∷ l) (part_append k xs ys)
+      | false ↦ part_append k xs ys
+    ]
+
+pub grew_trans : (a b c : Option (List ℕ)) (x y : List ℕ) → Grew a b x → Grew b c y → Grew a c (x ++ y)
+grew_trans None b c x y h k = tt
+grew_trans (Some xs) None c x y h k = absurd h
+grew_trans (Some xs) (Some ys) None x y h k = absurd k
+grew_trans (Some xs) (Some ys) (Some zs) x y h k = k ∙ ap (λ l. l ++ y) h ∙ append_assoc xs x y
+
+pub grew_none : (a : Option (List ℕ)) → Grew a a []
+grew_none None = tt
+grew_none (Some xs) = sym (append-nil xs)
+
+pub gained_trans : (a b c : World) (x y : List (ℕ × ℕ)) → Gained a b x → Gained b c y → Gained a c (x ++ y)
+gained_trans a b c x y h k = record {
+  log = subst (Grew a.log c.log) (sym (part_append 0 x y)) (grew_trans a.log b.log c.log _ _ h.log k.log);
+  mail = subst (Grew a.mail c.mail) (sym (part_append 1 x y)) (grew_trans a.mail b.mail c.mail _ _ h.mail k.mail);
+  out = subst (Grew a.out c.out) (sym (part_append 2 x y)) (grew_trans a.out b.out c.out _ _ h.out k.out);
+}
+
+giving_then : (Q : Owed → Type 0) (R : Meaning) (K : List ℕ) (s : St) (n m : ℕ) (xs ys : List Owed) (old mid new : World)
+    → m ≡ n + length xs → Gained old mid (bytes_of R K s n xs) → Giving Q R K (after_of R K s n xs) m ys mid new → Giving Q R K s n (xs ++ ys) old new
+giving_then Q R K s n m xs ys old mid new e a h =
+    let num : m + length h.done ≡ n + length (xs ++ h.done) = omega (arith, length-append xs h.done) in
+    let st : after_of R K (after_of R K s n xs) m h.done ≡ after_of R K s n (xs ++ h.done) = sym (after_append R K s n m xs h.done e) in
+    record {
+      done = xs ++ h.done;
+      now = h.now;
+      later = h.later;
+      got = h.got;
+      lost = h.lost;
+      is = ap (λ l. xs ++ l) h.is ∙ sym (append_assoc xs h.done (h.now ∷ h.later));
+      near = h.near;
+      split = ap (λ k. tagged (reply R K (after_of R K s n (xs ++ h.done)) k h.now)) (sym num)
+          ∙ ap (λ t. tagged (reply R K t (m + length h.done) h.now)) (sym st) ∙ h.split;
+      some = h.some;
+      gained = subst (Gained old new) (sym (append_assoc (bytes_of R K s n xs) _ h.got) ∙ ap (λ l. l ++ h.got) (sym (bytes_append R K s n m xs h.done e)))
+          (gained_trans old mid new _ _ a h.gained);
+      state = subst (IsState new) (sym (after_append R K s n m xs (h.done ++ h.now ∷ []) e) ∙ ap (after_of R K s n) (sym (append_assoc xs h.done (h.now ∷ [])))) h.state;
+    }
+
+before_then : (R : Meaning) (K : List ℕ) (s : St) (n m : ℕ) (xs ys : List Owed) (old mid new : World)
+    → m ≡ n + length xs → Gained old mid (bytes_of R K s n xs) → Before R K (after_of R K s n xs) m ys mid new → Before R K s n (xs ++ ys) old new
+before_then R K s n m xs ys old mid new e a h = record {
+  done = xs ++ h.done;
+  later = h.later;
+  is = ap (λ l. xs ++ l) h.is ∙ sym (append_assoc xs h.done h.later);
+  gained = subst (Gained old new) (sym (bytes_append R K s n m xs h.done e)) (gained_trans old mid new _ _ a h.gained);
+  state = subst (IsState new) (sym (after_append R K s n m xs h.done e)) h.state;
+}
+
+amid_then : (R : Meaning) (K : List ℕ) (s : St) (n m : ℕ) (xs ys : List Owed) (old mid new : World)
+    → m ≡ n + length xs → Gained old mid (bytes_of R K s n xs) → Amid R K (after_of R K s n xs) m ys mid new → Amid R K s n (xs ++ ys) old new
+amid_then R K s n m xs ys old mid new e a h =
+    let num : m + length h.done ≡ n + length (xs ++ h.done) = omega (arith, length-append xs h.done) in
+    let st : after_of R K (after_of R K s n xs) m h.done ≡ after_of R K s n (xs ++ h.done) = sym (after_append R K s n m xs h.done e) in
+    let to_st : after_of R K (after_of R K s n xs) m (h.done ++ h.now ∷ []) ≡ after_of R K s n ((xs ++ h.done) ++ h.now ∷ []) =
+    sym (after_append R K s n m xs (h.done ++ h.now ∷ []) e) ∙ ap (after_of R K s n) (sym (append_assoc xs h.done (h.now ∷ []))) in
+    record {
+      done = xs ++ h.done;
+      now = h.now;
+      later = h.later;
+      is = ap (λ l. xs ++ l) h.is ∙ sym (append_assoc xs h.done (h.now ∷ h.later));
+      gained = subst (Gained old new) (sym (bytes_append R K s n m xs h.done e)) (gained_trans old mid new _ _ a h.gained);
+      from = subst (λ (t : St). t.made ≤ new.made) st h.from;
+      to = subst (λ (t : St). new.made ≤ t.made) to_st h.to;
+      state = h.state ∙ ap (λ k. Some ((reply R K (after_of R K (after_of R K s n xs) m h.done) k h.now).store_at new.made)) num
+          ∙ ap (λ t. Some ((reply R K t (n + length (xs ++ h.done)) h.now).store_at new.made)) st;
+    }
+
+meeting_then : (R : Meaning) (K : List ℕ) (s : St) (n m : ℕ) (xs ys : List Owed) (old mid new : World)
+    → m ≡ n + length xs → Gained old mid (bytes_of R K s n xs) → Meeting R K (after_of R K s n xs) m ys mid new → Meeting R K s n (xs ++ ys) old new
+meeting_then R K s n m xs ys old mid new e a h =
+    let num : m + length h.done ≡ n + length (xs ++ h.done) = omega (arith, length-append xs h.done) in
+    let st : after_of R K (after_of R K s n xs) m h.done ≡ after_of R K s n (xs ++ h.done) = sym (after_append R K s n m xs h.done e) in
+    record {
+      done = xs ++ h.done;
+      now = h.now;
+      later = h.later;
+      is = ap (λ l. xs ++ l) h.is ∙ sym (append_assoc xs h.done (h.now ∷ h.later));
+      not_yet = ap (λ k. (reply R K (after_of R K s n (xs ++ h.done)) k h.now).not_yet) (sym num)
+          ∙ ap (λ t. (reply R K t (m + length h.done) h.now).not_yet) (sym st) ∙ h.not_yet;
+      gained = subst (Gained old new) (sym (bytes_append R K s n m xs h.done e)) (gained_trans old mid new _ _ a h.gained);
+      state = subst (IsState new) (sym (after_append R K s n m xs (h.done ++ h.now ∷ []) e) ∙ ap (after_of R K s n) (sym (append_assoc xs h.done (h.now ∷ [])))) h.state;
+    }
+
+-- what goes on from a state that a whole run reached
+pub through_then : (g : Given) (Q : Owed → Type 0) (R : Meaning) (K : List ℕ) (s : St) (n m : ℕ) (xs ys : List Owed) (old mid new : World)
+    → m ≡ n + length xs → Gained old mid (bytes_of R K s n xs) → RanFrom g Q R K (after_of R K s n xs) m ys mid new → RanFrom g Q R K s n (xs ++ ys) old new
+through_then Whole Q R K s n m xs ys old mid new e a h = record {
+  gained = subst (Gained old new) (sym (bytes_append R K s n m xs ys e)) (gained_trans old mid new _ _ a h.gained);
+  state = subst (IsState new) (sym (after_append R K s n m xs ys e)) h.state;
+}
+through_then Fault Q R K s n m xs ys old mid new e a h = giving_then Q R K s n m xs ys old mid new e a h
+through_then Memory Q R K s n m xs ys old mid new e a (inl h) = inl (giving_then (λ _. ⊤) R K s n m xs ys old mid new e a h)
+through_then Memory Q R K s n m xs ys old mid new e a (inr (inl h)) = inr (inl (before_then R K s n m xs ys old mid new e a h))
+through_then Memory Q R K s n m xs ys old mid new e a (inr (inr h)) = inr (inr (amid_then R K s n m xs ys old mid new e a h))
+through_then NotYet Q R K s n m xs ys old mid new e a h = meeting_then R K s n m xs ys old mid new e a h
+
+at_state : (w : World) (t : St) (P : St → Type 0) → IsState w t → WhereTold w.store (λ s. P (record { store = s; made = w.made })) → P t
+at_state w t P i h =
+    let k : WhereTold (Some t.store) (λ s. P (record { store = s; made = w.made })) = subst (λ o. WhereTold o (λ s. P (record { store = s; made = w.made }))) i.1 h in
+    subst (λ k. P (record { store = t.store; made = k })) i.0 k
+
+where_then : (o : Option Store) (A B : Store → Type 0) → ((s : Store) → A s → B s) → WhereTold o A → WhereTold o B
+where_then None A B f h = tt
+where_then (Some s) A B f h = f s h
+
+pub ran_then : (g : Given) (Q Q' : Owed → Type 0) (R : Meaning) (K : List ℕ) (n m : ℕ) (xs ys : List Owed) (old mid new : World)
+    → m ≡ n + length xs → Ran Whole Q' R K n xs old mid → Ran g Q R K m ys mid new → Ran g Q R K n (xs ++ ys) old new
+unfolding Ran
+ran_then g Q Q' R K n m xs ys old mid new e a h = where_then old.store _ _ (λ s t.
+    through_then g Q R K (record { store = s; made = old.made }) n m xs ys old mid new e t.gained
+    (at_state mid _ (λ t. RanFrom g Q R K t m ys mid new) t.state h)) a
+
+giving_more : (Q : Owed → Type 0) (R : Meaning) (K : List ℕ) (s : St) (n : ℕ) (xs ys : List Owed) (old new : World)
+    → Giving Q R K s n xs old new → Giving Q R K s n (xs ++ ys) old new
+giving_more Q R K s n xs ys old new h = record {
+  done = h.done;
+  now = h.now;
+  later = h.later ++ ys;
+  got = h.got;
+  lost = h.lost;
+  is = ap (λ l. l ++ ys) h.is ∙ append_assoc h.done (h.now ∷ h.later) ys;
+  near = h.near;
+  split = h.split;
+  some = h.some;
+  gained = h.gained;
+  state = h.state;
+}
+
+-- a run that stopped, of the answers with more to come
+more_from : (g : Given) (Q : Owed → Type 0) (R : Meaning) (K : List ℕ) (s : St) (n : ℕ) (xs ys : List Owed) (old new : World)
+    → (g ≡ Whole → ⊥) → RanFrom g Q R K s n xs old new → RanFrom g Q R K s n (xs ++ ys) old new
+more_from Whole Q R K s n xs ys old new ne h = absurd (ne refl)
+more_from Fault Q R K s n xs ys old new ne h = giving_more Q R K s n xs ys old new h
+more_from Memory Q R K s n xs ys old new ne (inl h) = inl (giving_more (λ _. ⊤) R K s n xs ys old new h)
+more_from Memory Q R K s n xs ys old new ne (inr (inl h)) = inr (inl (record {
+  done = h.done;
+  later = h.later ++ ys;
+  is = ap (λ l. l ++ ys) h.is ∙ append_assoc h.done h.later ys;
+  gained = h.gained;
+  state = h.state;
+}))
+more_from Memory Q R K s n xs ys old new ne (inr (inr h)) = inr (inr (record {
+  done = h.done;
+  now = h.now;
+  later = h.later ++ ys;
+  is = ap (λ l. l ++ ys) h.is ∙ append_assoc h.done (h.now ∷ h.later) ys;
+  gained = h.gained;
+  from = h.from;
+  to = h.to;
+  state = h.state;
+}))
+more_from NotYet Q R K s n xs ys old new ne h = record {
+  done = h.done;
+  now = h.now;
+  later = h.later ++ ys;
+  is = ap (λ l. l ++ ys) h.is ∙ append_assoc h.done (h.now ∷ h.later) ys;
+  not_yet = h.not_yet;
+  gained = h.gained;
+  state = h.state;
+}
+
+pub ran_more : (g : Given) (Q : Owed → Type 0) (R : Meaning) (K : List ℕ) (n : ℕ) (xs ys : List Owed) (old new : World)
+    → (g ≡ Whole → ⊥) → Ran g Q R K n xs old new → Ran g Q R K n (xs ++ ys) old new
+unfolding Ran
+ran_more g Q R K n xs ys old new ne h = where_then old.store _ _ (λ s t. more_from g Q R K (record { store = s; made = old.made }) n xs ys old new ne t) h
+
+gained_none : (w : World) → Gained w w []
+gained_none w = record { log = grew_none w.log; mail = grew_none w.mail; out = grew_none w.out }
+
+told_with : (o : Option Store) (P : Store → Type 0) → ((s : Store) → o ≡ Some s → P s) → WhereTold o P
+told_with None P f = tt
+told_with (Some s) P f = f s refl
+
+-- no answer was served
+pub ran_none : (Q : Owed → Type 0) (R : Meaning) (K : List ℕ) (n : ℕ) (w : World) → Ran Whole Q R K n [] w w
+unfolding Ran
+ran_none Q R K n w = told_with w.store _ (λ s e. record { gained = gained_none w; state = (refl, e) })
+
+-- nothing was done, for want of memory
+pub ran_stop : (Q : Owed → Type 0) (R : Meaning) (K : List ℕ) (n : ℕ) (xs : List Owed) (w : World) → Ran Memory Q R K n xs w w
+unfolding Ran
+ran_stop Q R K n xs w = told_with w.store _ (λ s e. inr (inl (record { done = []; later = xs; is = refl; gained = gained_none w; state = (refl, e) })))
+
+-- the answer whose bytes were given fits
+pub ran_near : (g : Given) (Q Q' : Owed → Type 0) (R : Meaning) (K : List ℕ) (n : ℕ) (xs : List Owed) (old new : World)
+    → ((a : Owed) → Q a → Q' a) → Ran g Q R K n xs old new → Ran g Q' R K n xs old new
+unfolding Ran
+ran_near Whole Q Q' R K n xs old new f h = h
+ran_near Fault Q Q' R K n xs old new f h = where_then old.store _ _ (λ s t. record {
+  done = t.done;
+  now = t.now;
+  later = t.later;
+  got = t.got;
+  lost = t.lost;
+  is = t.is;
+  near = f t.now t.near;
+  split = t.split;
+  some = t.some;
+  gained = t.gained;
+  state = t.state;
+}) h
+ran_near Memory Q Q' R K n xs old new f h = h
+ran_near NotYet Q Q' R K n xs old new f h = h
+
+-- one answer, of which a front of its bytes was given
+one_given : (g : Given) (Q : Owed → Type 0) (R : Meaning) (K : List ℕ) (s : St) (n : ℕ) (x : Owed) (old new : World) (got lost : List (ℕ × ℕ))
+    → Q x → tagged (reply R K s n x) ≡ got ++ lost → (lost ≡ [] → ⊥) → Gained old new got → IsState new (reply R K s n x).after
+    → Giving Q R K s n (x ∷ []) old new
+one_given g Q R K s n x old new got lost q e ne a i =
+    let z : n ≡ n + 0 = omega arith in
+    record {
+      done = [];
+      now = x;
+      later = [];
+      got = got;
+      lost = lost;
+      is = refl;
+      near = q;
+      split = subst (λ k. tagged (reply R K s k x) ≡ got ++ lost) z e;
+      some = ne;
+      gained = a;
+      state = i;
+    }
+
+-- the outcome of one answer was given as far as it was
+one_from : (g : Given) (Q : Owed → Type 0) (R : Meaning) (K : List ℕ) (s : St) (n : ℕ) (x : Owed) (old new : World)
+    → Q x → GaveAll g (tagged (reply R K s n x)) old new → IsState new (reply R K s n x).after → RanFrom g Q R K s n (x ∷ []) old new
+one_from Whole Q R K s n x old new q a i = record {
+  gained = subst (Gained old new) (sym (append-nil a.got) ∙ ap (λ l. a.got ++ l) (sym a.lost_is) ∙ sym a.split ∙ sym (append-nil (tagged (reply R K s n x)))) a.gained;
+  state = i;
+}
+one_from Fault Q R K s n x old new q a i = one_given Fault Q R K s n x old new a.got a.lost q a.split a.lost_is a.gained i
+one_from NotYet Q R K s n x old new q a i = absurd a.lost_is
+one_from Memory Q R K s n x old new q a i = inl (one_given Memory (λ _. ⊤) R K s n x old new a.got a.lost tt a.split a.lost_is a.gained i)
+
+-- the mail and the response of an outcome are the reply's
+texts_of : (g : Given) (conn : ℕ) (mails response : List ℕ) (r : site.Reply) (old new : World) → [] ≡ r.log → mails ≡ r.mail → response ≡ r.response
+    → GaveAll g (three [] mails (record_text conn response)) old new → GaveAll g (tagged (recorded conn r)) old new
+texts_of g conn mails response r old new l m t h =
+    subst (λ x. GaveAll g (three x r.mail (record_text conn r.response)) old new) l
+    (subst (λ x. GaveAll g (three [] x (record_text conn r.response)) old new) m
+    (subst (λ x. GaveAll g (three [] mails (record_text conn x)) old new) t h))
+
+-- no answer has lines for the log yet
+no_log : (fuel : ℕ) (K : List ℕ) (s : Store) (made n : ℕ) (r : Request) → [] ≡ (site.request fuel K s made n r).log
+unfolding site.request
+no_log fuel K s made n r = elim (is_open (path_of r.target)) as (λ b. [] ≡ (cond b (site.reply_finding s (path_of r.target) (site.is_head r.method) (find K fuel s.files made (path_of r.target))) (site.reply_with s made (not_found (site.is_head r.method)))).log) [ true ↦ refl | false ↦ refl ]
+
+-- a request's answer was given as far as it was
+pub ran_gave : (g : Given) (Q : Owed → Type 0) (fuel : ℕ) (K : List ℕ) (n conn place : ℕ) (r : Request) (o : Outcome) (mails response : List ℕ) (old mid new : World)
+    → Q (record { conn = conn; asked = asks r; place = place }) → mails ≡ o.mail → response ≡ o.response → GaveAll g (three [] mails (record_text conn response)) old new
+    → Served fuel K old.store old.made n r (Ok o) mid.store mid.made → new.store ≡ mid.store → new.made ≡ mid.made
+    → Ran g Q (meaning fuel) K n (record { conn = conn; asked = asks r; place = place } ∷ []) old new
+unfolding Ran
+ran_gave g Q fuel K n conn place r o mails response old mid new q m p a h st ma = where_then old.store _ _ (λ s t.
+    one_from g Q (meaning fuel) K (record { store = s; made = old.made }) n (record { conn = conn; asked = asks r; place = place }) old new q
+    (texts_of g conn mails response (site.request fuel K s old.made n r) old new (no_log fuel K s old.made n r) (m ∙ t.says.mail) (p ∙ t.says.response) a)
+    (ma ∙ t.made_is, st ∙ t.store_is)) h
+
+pub gained_same : (old new : World) → new.log ≡ old.log → new.mail ≡ old.mail → new.out ≡ old.out → Gained old new []
+gained_same old new l m u = record {
+  log = subst (λ w. Grew old.log w []) (sym l) (grew_none old.log);
+  mail = subst (λ w. Grew old.mail w []) (sym m) (grew_none old.mail);
+  out = subst (λ w. Grew old.out w []) (sym u) (grew_none old.out);
+}
+
+-- a request's calls were made in part, for want of memory
+pub ran_amid : (Q : Owed → Type 0) (fuel : ℕ) (K : List ℕ) (n conn place : ℕ) (r : Request) (e : AllocError) (old new : World)
+    → new.log ≡ old.log → new.mail ≡ old.mail → new.out ≡ old.out
+    → Served fuel K old.store old.made n r (Err e) new.store new.made
+    → Ran Memory Q (meaning fuel) K n (record { conn = conn; asked = asks r; place = place } ∷ []) old new
+unfolding Ran
+ran_amid Q fuel K n conn place r e old new l m u h = where_then old.store _ _ (λ s t.
+    let z : n ≡ n + 0 = omega arith in
+    inr (inr (record {
+      done = [];
+      now = record { conn = conn; asked = asks r; place = place };
+      later = [];
+      is = refl;
+      gained = gained_same old new l m u;
+      from = t.from;
+      to = t.to;
+      state = subst (λ k. new.store ≡ Some ((reply (meaning fuel) K (record { store = s; made = old.made }) k (record { conn = conn; asked = asks r; place = place })).store_at new.made)) z t.store_is;
+    }))) h
+
+-- a request met what isn't built
+pub ran_met : (Q : Owed → Type 0) (fuel : ℕ) (K : List ℕ) (n conn place : ℕ) (r : Request) (o : Outcome) (old new : World)
+    → new.log ≡ old.log → new.mail ≡ old.mail → new.out ≡ old.out → o.end ≡ Unbuilt
+    → Served fuel K old.store old.made n r (Ok o) new.store new.made
+    → Ran NotYet Q (meaning fuel) K n (record { conn = conn; asked = asks r; place = place } ∷ []) old new
+unfolding Ran
+ran_met Q fuel K n conn place r o old new l m u e h = where_then old.store _ _ (λ s t.
+    let z : n ≡ n + 0 = omega arith in
+    record {
+      done = [];
+      now = record { conn = conn; asked = asks r; place = place };
+      later = [];
+      is = refl;
+      not_yet = subst (λ k. (reply (meaning fuel) K (record { store = s; made = old.made }) k (record { conn = conn; asked = asks r; place = place })).not_yet ≡ true) z
+          (ap is_unbuilt (sym t.says.end ∙ ap (λ x. Some x) e));
+      gained = gained_same old new l m u;
+      state = (t.made_is, t.store_is);
+    }) h
+
+-- a refusal was given as far as it was
+pub ran_refused : (g : Given) (Q : Owed → Type 0) (fuel : ℕ) (K : List ℕ) (n conn status place : ℕ) (response : List ℕ) (old new : World)
+    → Q (record { conn = conn; asked = refuses status; place = place }) → GaveAll g (three [] [] (record_text conn response)) old new
+    → new.store ≡ old.store → new.made ≡ old.made → response ≡ refusal_text status
+    → Ran g Q (meaning fuel) K n (record { conn = conn; asked = refuses status; place = place } ∷ []) old new
+unfolding Ran
+ran_refused g Q fuel K n conn status place response old new q a st ma e = told_with old.store _ (λ s i.
+    one_from g Q (meaning fuel) K (record { store = s; made = old.made }) n (record { conn = conn; asked = refuses status; place = place }) old new q
+    (texts_of g conn [] response (site.refusal s old.made status) old new refl refl e a) (ma, st ∙ i))
+
+-- of a whole run nothing is said of an answer whose bytes were being given
+pub ran_any : (Q Q' : Owed → Type 0) (R : Meaning) (K : List ℕ) (n : ℕ) (xs : List Owed) (old new : World) → Ran Whole Q R K n xs old new → Ran Whole Q' R K n xs old new
+unfolding Ran
+ran_any Q Q' R K n xs old new h = h

@@ -1,0 +1,31 @@
+-- Nothing of an answer was given.
+use Rattle.std.proofs.Common.{◌≡◌, ◌≢◌, ℕ, List, [], length, Option, refl, ap, arith, length-append}
+use Rattle.std.proofs.lemmas.List.{append-nil, length-map}
+use Rattle.resin_site.specs.Keeping.{Store}
+use Rattle.resin_serve.specs.declared.give.Given.TheVariants.{Memory}
+use Rattle.resin_serve.specs.Ran.{world}
+use Rattle.resin_serve.specs.Gives.{GaveAll, three}
+use Rattle.resin_serve.specs.Records.{record_text}
+use Rattle.resin_serve.proofs.Runs.{gained_same}
+
+some_record : (conn : ℕ) (response : List ℕ) → record_text conn response ≢ []
+unfolding record_text
+some_record conn response e =
+    let n : length (record_text conn response) ≡ 0 = ap length e in
+    omega (arith, length-append {A = ℕ})
+
+some_three : (mails : List ℕ) (conn : ℕ) (response : List ℕ) → three [] mails (record_text conn response) ≢ []
+some_three mails conn response e =
+    let n : length (three [] mails (record_text conn response)) ≡ 0 = ap length e in
+    let l : length (record_text conn response) ≡ 0 = omega (arith, length-append {A = ℕ × ℕ}, length-map {A = ℕ} {B = ℕ × ℕ}) in
+    some_record conn response (Rattle.std.proofs.lemmas.List.nil_from_length (record_text conn response) l)
+
+pub unsaid : (mails : List ℕ) (conn : ℕ) (response : List ℕ) (log mail out : Option (List ℕ)) (store store' : Option Store) (made made' : ℕ)
+    → GaveAll Memory (three [] mails (record_text conn response)) (world log mail out store made) (world log mail out store' made')
+unsaid mails conn response log mail out store store' made made' = record {
+  got = [];
+  lost = three [] mails (record_text conn response);
+  split = refl;
+  lost_is = some_three mails conn response;
+  gained = gained_same (world log mail out store made) (world log mail out store' made') refl refl refl;
+}

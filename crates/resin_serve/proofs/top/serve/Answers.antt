@@ -1,0 +1,27 @@
+use Rattle.std.proofs.Common.{refl, ◌∙◌}
+use Rattle.resin_serve.proofs.Keeping.{numbered}
+use Rattle.resin_serve.proofs.Request_kept.{later_self}
+use Rattle.resin_serve.proofs.Completing.{completes, no_fails, runs_nothing, runs_with, some_same, kept_new}
+use Rattle.resin_serve.proofs.top.serve.Goals as goal
+
+pub returns-in_default-clause-kept : goal.returns-in_default-clause-kept
+returns-in_default-clause-kept g c = kept_new _ _ _ _ _ c.new.ensures
+
+pub returns-in_default-new-clause-run : goal.returns-in_default-new-clause-run
+returns-in_default-new-clause-run g c = λ fuel taken left f p q. runs_nothing _ _ taken left _
+
+pub returns-in_default-new-clause-kept : goal.returns-in_default-new-clause-kept
+returns-in_default-new-clause-kept g c = kept_new _ _ _ _ _ c.new.ensures
+
+pub returns-clause-run : goal.returns-clause-run
+returns-clause-run g c = λ fuel taken left f p q.
+    runs_with _ _ fuel _ taken left _ _ (c.in-Ok.ensures ∙ some_same _ _ (c.in-Some.ensures ∙ f)) (c.serve_trace-status.ensures.ran _ taken left (later_self _ _) p q)
+
+pub returns-clause-numbered : goal.returns-clause-numbered
+returns-clause-numbered g c = numbered _ _ c.serve_trace-status.ensures.kept refl c.new.ensures
+
+pub returns-clause-complete : goal.returns-clause-complete
+returns-clause-complete g c = λ fuel taken left f p q good calm. (
+  completes _ _ _ taken left _ _ _ _ _ _ _ _ (c.serve_trace-status.ensures.ran _ taken left (later_self _ _) p q) good c.serve_trace-status.ensures.cause c.serve_trace-status.ensures.read calm,
+  no_fails _ _ c.serve_trace-status.ensures.kept c.new.ensures calm.files_stay calm.tables_stay,
+)

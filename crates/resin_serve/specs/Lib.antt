@@ -1,0 +1,13 @@
+pub mod Meaning
+pub mod Ran
+pub mod Gives
+pub mod Kept
+pub mod Lines
+pub mod Records
+pub mod Top
+pub mod Whole_run
+pub mod Words
+pub mod Headline
+pub mod Codes
+pub mod Asked
+pub mod Cutting

@@ -1,0 +1,96 @@
+-- How far a run came (this project).
+use Rattle.std.specs.Prelude.{◌≡◌, ◌≢◌, ℕ, ◌+◌, ◌≤◌, ◌==◌, true, List, [], ◌∷◌, ◌++◌, length, if◌then◌else◌, Option, Some, None, ⊤, ◌⊎◌}
+use Rattle.resin_serve.specs.declared.give.Given.{Given}
+use Rattle.resin_serve.specs.declared.give.Given.TheVariants.{Whole, Fault, Memory, NotYet}
+use Rattle.resin_site.specs.Keeping.{Store, St, WhereTold}
+use Rattle.resin_serve.specs.Meaning.{Meaning, Owed, tagged, reply, bytes_of, after_of}
+
+-- told contents grew by these bytes
+abbrev pub Grew : Option (List ℕ) → Option (List ℕ) → List ℕ → Type 0
+Grew None new more = ⊤
+Grew (Some xs) None more = ⊥
+Grew (Some xs) (Some ys) more = ys ≡ xs ++ more
+
+-- the bytes of one sink
+abbrev pub part : ℕ → List (ℕ × ℕ) → List ℕ
+part k [] = []
+part k (x ∷ xs) = if x.0 == k then x.1 ∷ part k xs else part k xs
+
+-- what the outside holds, where it is told, and how many keeper calls were made
+pub record World : Type 0 where
+  pub log : Option (List ℕ)
+  pub mail : Option (List ℕ)
+  pub out : Option (List ℕ)
+  pub store : Option Store
+  pub made : ℕ
+
+abbrev pub world : Option (List ℕ) → Option (List ℕ) → Option (List ℕ) → Option Store → ℕ → World
+world log mail out store made = record { log = log; mail = mail; out = out; store = store; made = made }
+
+-- the three sinks gained these bytes
+pub record Gained (old new : World) (got : List (ℕ × ℕ)) : Type 0 where
+  pub log : Grew old.log new.log (part 0 got)
+  pub mail : Grew old.mail new.mail (part 1 got)
+  pub out : Grew old.out new.out (part 2 got)
+
+-- what the keepers hold is told, and is this state
+abbrev pub IsState : World → St → Type 0
+IsState w s = (w.made ≡ s.made) × (w.store ≡ Some s.store)
+
+-- a run from a state over answers that stopped while an answer's bytes were given: a front of them was, and some weren't
+pub record Giving (Q : Owed → Type 0) (R : Meaning) (K : List ℕ) (s : St) (number : ℕ) (xs : List Owed) (old new : World) : Type 0 where
+  pub done : List Owed
+  pub now : Owed
+  pub later : List Owed
+  pub got : List (ℕ × ℕ)
+  pub lost : List (ℕ × ℕ)
+  pub is : xs ≡ done ++ now ∷ later
+  pub near : Q now
+  pub split : tagged (reply R K (after_of R K s number done) (number + length done) now) ≡ got ++ lost
+  pub some : lost ≢ []
+  pub gained : Gained old new (bytes_of R K s number done ++ got)
+  pub state : IsState new (after_of R K s number (done ++ now ∷ []))
+
+-- .. or before an answer
+pub record Before (R : Meaning) (K : List ℕ) (s : St) (number : ℕ) (xs : List Owed) (old new : World) : Type 0 where
+  pub done : List Owed
+  pub later : List Owed
+  pub is : xs ≡ done ++ later
+  pub gained : Gained old new (bytes_of R K s number done)
+  pub state : IsState new (after_of R K s number done)
+
+-- .. or amid the keeper calls of one
+pub record Amid (R : Meaning) (K : List ℕ) (s : St) (number : ℕ) (xs : List Owed) (old new : World) : Type 0 where
+  pub done : List Owed
+  pub now : Owed
+  pub later : List Owed
+  pub is : xs ≡ done ++ now ∷ later
+  pub gained : Gained old new (bytes_of R K s number done)
+  pub from : (after_of R K s number done).made ≤ new.made
+  pub to : new.made ≤ (after_of R K s number (done ++ now ∷ [])).made
+  pub state : new.store ≡ Some ((reply R K (after_of R K s number done) (number + length done) now).store_at new.made)
+
+-- the run met what isn't built, after everything before it was served
+pub record Meeting (R : Meaning) (K : List ℕ) (s : St) (number : ℕ) (xs : List Owed) (old new : World) : Type 0 where
+  pub done : List Owed
+  pub now : Owed
+  pub later : List Owed
+  pub is : xs ≡ done ++ now ∷ later
+  pub not_yet : (reply R K (after_of R K s number done) (number + length done) now).not_yet ≡ true
+  pub gained : Gained old new (bytes_of R K s number done)
+  pub state : IsState new (after_of R K s number (done ++ now ∷ []))
+
+-- the whole run
+pub record Through (R : Meaning) (K : List ℕ) (s : St) (number : ℕ) (xs : List Owed) (old new : World) : Type 0 where
+  pub gained : Gained old new (bytes_of R K s number xs)
+  pub state : IsState new (after_of R K s number xs)
+
+abbrev pub RanFrom : Given → (Owed → Type 0) → Meaning → List ℕ → St → ℕ → List Owed → World → World → Type 0
+RanFrom Whole Q R K s number xs old new = Through R K s number xs old new
+RanFrom Fault Q R K s number xs old new = Giving Q R K s number xs old new
+RanFrom Memory Q R K s number xs old new = Giving (λ _. ⊤) R K s number xs old new ⊎ (Before R K s number xs old new ⊎ Amid R K s number xs old new)
+RanFrom NotYet Q R K s number xs old new = Meeting R K s number xs old new
+
+-- the run came so far, where the keepers tell what they hold
+unfoldable pub Ran : Given → (Owed → Type 0) → Meaning → List ℕ → ℕ → List Owed → World → World → Type 0
+Ran g Q R K number xs old new = WhereTold old.store (λ s. RanFrom g Q R K (record { store = s; made = old.made }) number xs old new)

@@ -1,0 +1,32 @@
+-- The words of the program (this project).
+use Rattle.std.specs.Prelude.{ℕ, Bool, ◌&&◌, not, ◌==◌, nat_lt, nat_le, nat_eq, List, [], ◌∷◌, length, if◌then◌else◌, Option, Some, None, codes}
+use Rattle.std.specs.List.{list_all, slice_index}
+use Rattle.std.specs.Char.{is_ascii_digit}
+use Rattle.std.specs.Str.Parse.{digits_value}
+use Rattle.std.specs.Cmp.Lexicographic.{pointwise}
+
+abbrev pub is_word : List ℕ → List ℕ → Bool
+is_word word wanted = pointwise nat_eq word wanted
+
+-- the ticks of a request where no word says them
+abbrev pub usual_fuel : ℕ
+usual_fuel = 1000000
+
+abbrev pub most_fuel : ℕ
+most_fuel = 100000000
+
+-- one to nine digits without a leading zero
+abbrev pub is_decimal : List ℕ → Bool
+is_decimal text = nat_lt 0 (length text) && nat_le (length text) 9 && list_all is_ascii_digit text && not (slice_index text 0 == 48)
+
+-- the number from 1 to 100,000,000 that a word is
+abbrev pub fuel_number : List ℕ → Option ℕ
+fuel_number text = if is_decimal text && nat_le (digits_value 10 text) most_fuel then Some (digits_value 10 text) else None
+
+-- the ticks of a request, by the words `serve` and `serve --fuel N`; None for all other words
+abbrev pub fuel_of : List (List ℕ) → Option ℕ
+fuel_of [] = None
+fuel_of (w ∷ []) = if is_word w (codes "serve") then Some usual_fuel else None
+fuel_of (w ∷ o ∷ []) = None
+fuel_of (w ∷ o ∷ n ∷ []) = if is_word w (codes "serve") && is_word o (codes "--fuel") then fuel_number n else None
+fuel_of (w ∷ o ∷ n ∷ m ∷ ws) = None

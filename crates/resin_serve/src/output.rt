@@ -1,0 +1,22 @@
+//! The records of the output.
+ghost use Rattle.std.specs.Prelude.{◌≡◌, IfOk};
+ghost use Rattle.resin_serve.specs.Records.{record_text};
+
+use itoa::Buffer;
+use resin_base::Bytes;
+use std::alloc::{AllocError, Global};
+
+/// The record of a response: `<conn> <len>`, a newline, the response and a newline.
+#[tactic(auto, unfolding(crate::specs::Records::record_text))]
+pub(crate) fn output_record(alloc: Global, conn: u16, response: &[u8]) -> Result<Bytes, AllocError>
+    ensures { IfOk result (λ text. text ≡ record_text conn response.now) }
+{
+    let mut buffer = Buffer::new();
+    let mut text = Bytes::from_slice(alloc, buffer.format(conn).as_bytes())?;
+    text.push_slice(b" ")?;
+    text.push_slice(buffer.format(response.len()).as_bytes())?;
+    text.push_slice(b"\n")?;
+    text.push_slice(response)?;
+    text.push_slice(b"\n")?;
+    Ok(text)
+}

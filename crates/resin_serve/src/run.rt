@@ -1,0 +1,280 @@
+//! Serves the records of a trace.
+ghost use Rattle.std.specs.Prelude.{◌≡◌, ◌≢◌, ◌+◌, ◌∷◌, [], ℕ, List, Option, IsSome};
+ghost use Rattle.resin_http.specs.Stream.{asks, refuses};
+ghost use Rattle.resin_trace.specs.declared.event.TraceEvent.{TraceEvent};
+ghost use Rattle.resin_trace.specs.Lines.{at};
+ghost use Rattle.resin_serve.specs.Ran.{Ran, world};
+ghost use Rattle.resin_serve.specs.Gives.{CausedIn, GaveAll, counts, sinks, three};
+ghost use Rattle.resin_serve.specs.Kept.{Kept, keepers};
+ghost use Rattle.resin_site.specs.Keeping.{Store, Later, store_of};
+ghost use Rattle.resin_base.specs.Numbering.{AreNumbered};
+ghost use Rattle.resin_serve.specs.Records.{record_text};
+ghost use Rattle.resin_serve.specs.Asked.{meaning};
+ghost use Rattle.resin_serve.specs.Lines.{still, asked, Hold};
+ghost use Rattle.resin_serve.specs.Top.{OnWhole, RanLine, RanEvent, Beyond, Went, given_of};
+
+use crate::give::{Given, give_three};
+use crate::output::output_record;
+use resin_base::{Calls, Files, Sink, Tables};
+use resin_http::{Request, Step, next_request};
+use resin_site::{End, Site, refusal, serve_one};
+use resin_trace::{Connections, TraceEvent, TraceFault, TraceReader};
+use std::alloc::Global;
+
+/// What a run has at hand: the site, the keeper calls so far, the number of the next answer, and the streams of the connections.
+#[derive(Drop)]
+pub(crate) struct Run {
+    pub(crate) alloc: Global,
+    pub(crate) site: Site,
+    pub(crate) calls: Calls,
+    pub(crate) number: u64,
+    pub(crate) connections: Connections,
+}
+
+/// Gives an answer: its mail records, and the record of its response.
+pub(crate) fn give_answer<L: Sink, M: Sink, O: Sink>(
+    run: &mut Run,
+    log: &mut L,
+    mail: &mut M,
+    out: &mut O,
+    conn: u16,
+    mails: &[u8],
+    response: &[u8],
+) -> Given
+    ensures same { (run.new.site ≡ run.old.site) × (run.new.connections ≡ run.old.connections) × (run.new.calls ≡ run.old.calls) }
+    ensures gave { (store : Option Store) (made : ℕ) (store' : Option Store) (made' : ℕ)
+        → GaveAll result (three [] mails.now (record_text conn response.now)) (world (L.written log.old) (M.written mail.old) (O.written out.old) store made)
+        (world (L.written log.new) (M.written mail.new) (O.written out.new) store' made') }
+    ensures number { OnWhole result (run.new.number ≡ run.old.number + 1) }
+    ensures cause { CausedIn result
+        (sinks (counts (L.faults log.old) (L.stalls log.old)) (counts (M.faults mail.old) (M.stalls mail.old)) (counts (O.faults out.old) (O.stalls out.old)))
+        (sinks (counts (L.faults log.new) (L.stalls log.new)) (counts (M.faults mail.new) (M.stalls mail.new)) (counts (O.faults out.new) (O.stalls out.new))) }
+{
+    let Some(next) = run.number.checked_add(1) else {
+        return Given::Memory;
+    };
+    let Ok(record) = output_record(run.alloc, conn, response) else {
+        return Given::Memory;
+    };
+    run.number = next;
+    give_three(log, mail, out, &[], mails, record.as_slice())
+}
+
+/// Serves a request, and gives its answer.
+pub(crate) fn serve_request<F: Files, T: Tables, L: Sink, M: Sink, O: Sink>(
+    run: &mut Run,
+    log: &mut L,
+    mail: &mut M,
+    out: &mut O,
+    files: &mut F,
+    tables: &mut T,
+    conn: u16,
+    request: &Request,
+) -> Given
+    requires { AreNumbered run.old.calls }
+    ensures same { (run.new.site ≡ run.old.site) × (run.new.connections ≡ run.old.connections) }
+    ensures numbered { AreNumbered run.new.calls }
+    ensures kept { Kept (keepers run.old.calls.made run.old.calls.failed (F.answers files.old) (F.faults files.old) (T.answers tables.old) (T.faults tables.old))
+        (keepers run.new.calls.made run.new.calls.failed (F.answers files.new) (F.faults files.new) (T.answers tables.new) (T.faults tables.new)) }
+    ensures ran { (place : ℕ) (K : List ℕ) → Later run.new.calls.made run.new.calls.failed K
+        → Ran result (λ a. a.place ≡ place) (meaning run.old.site) K run.old.number (record { conn = conn; asked = asks request.now; place = place } ∷ [])
+        (world (L.written log.old) (M.written mail.old) (O.written out.old) (store_of (F.stored files.old) (T.stored tables.old)) run.old.calls.made)
+        (world (L.written log.new) (M.written mail.new) (O.written out.new) (store_of (F.stored files.new) (T.stored tables.new)) run.new.calls.made) }
+    ensures number { OnWhole result (run.new.number ≡ run.old.number + 1) }
+    ensures cause { CausedIn result
+        (sinks (counts (L.faults log.old) (L.stalls log.old)) (counts (M.faults mail.old) (M.stalls mail.old)) (counts (O.faults out.old) (O.stalls out.old)))
+        (sinks (counts (L.faults log.new) (L.stalls log.new)) (counts (M.faults mail.new) (M.stalls mail.new)) (counts (O.faults out.new) (O.stalls out.new))) }
+{
+    let served = serve_one(
+        run.alloc,
+        &mut run.site,
+        request,
+        run.number,
+        files,
+        tables,
+        &mut run.calls,
+    );
+    let Ok(outcome) = served else {
+        return Given::Memory;
+    };
+    match outcome.end {
+        End::NotYet => Given::NotYet,
+        End::Served | End::NotFound | End::Keeper => {
+            let mails = outcome.mail.as_slice();
+            give_answer(
+                run,
+                log,
+                mail,
+                out,
+                conn,
+                mails,
+                outcome.response.as_slice(),
+            )
+        }
+    }
+}
+
+/// Answers a refusal, which makes no keeper call.
+pub(crate) fn serve_refusal<L: Sink, M: Sink, O: Sink>(
+    run: &mut Run,
+    log: &mut L,
+    mail: &mut M,
+    out: &mut O,
+    conn: u16,
+    status: u16,
+) -> Given
+    ensures same { (run.new.site ≡ run.old.site) × (run.new.connections ≡ run.old.connections) × (run.new.calls ≡ run.old.calls) }
+    ensures ran { (place fuel : ℕ) (K : List ℕ) (store : Option Store)
+        → Ran result (λ a. a.place ≡ place) (meaning fuel) K run.old.number (record { conn = conn; asked = refuses status; place = place } ∷ [])
+        (world (L.written log.old) (M.written mail.old) (O.written out.old) store run.old.calls.made)
+        (world (L.written log.new) (M.written mail.new) (O.written out.new) store run.new.calls.made) }
+    ensures number { OnWhole result (run.new.number ≡ run.old.number + 1) }
+    ensures cause { CausedIn result
+        (sinks (counts (L.faults log.old) (L.stalls log.old)) (counts (M.faults mail.old) (M.stalls mail.old)) (counts (O.faults out.old) (O.stalls out.old)))
+        (sinks (counts (L.faults log.new) (L.stalls log.new)) (counts (M.faults mail.new) (M.stalls mail.new)) (counts (O.faults out.new) (O.stalls out.new))) }
+{
+    let Ok(response) = refusal(run.alloc, status) else {
+        return Given::Memory;
+    };
+    give_answer(run, log, mail, out, conn, &[], response.as_slice())
+}
+
+/// Serves the answers that stand on a connection, on which something came.
+pub(crate) fn serve_connection<F: Files, T: Tables, L: Sink, M: Sink, O: Sink>(
+    run: &mut Run,
+    log: &mut L,
+    mail: &mut M,
+    out: &mut O,
+    files: &mut F,
+    tables: &mut T,
+    conn: u16,
+) -> Given
+    requires some { IsSome (at run.old.connections conn) }
+    requires numbered { AreNumbered run.old.calls }
+    ensures site { run.new.site ≡ run.old.site }
+    ensures others { (c : ℕ) → c ≢ conn → at run.new.connections c ≡ at run.old.connections c }
+    ensures numbered { AreNumbered run.new.calls }
+    ensures kept { Kept (keepers run.old.calls.made run.old.calls.failed (F.answers files.old) (F.faults files.old) (T.answers tables.old) (T.faults tables.old))
+        (keepers run.new.calls.made run.new.calls.failed (F.answers files.new) (F.faults files.new) (T.answers tables.new) (T.faults tables.new)) }
+    ensures ran { (place : ℕ) (K : List ℕ) → Later run.new.calls.made run.new.calls.failed K
+        → Ran result (λ a. a.place ≡ place) (meaning run.old.site) K run.old.number (asked conn place (still (at run.old.connections conn) []))
+        (world (L.written log.old) (M.written mail.old) (O.written out.old) (store_of (F.stored files.old) (T.stored tables.old)) run.old.calls.made)
+        (world (L.written log.new) (M.written mail.new) (O.written out.new) (store_of (F.stored files.new) (T.stored tables.new)) run.new.calls.made) }
+    ensures cause { CausedIn result
+        (sinks (counts (L.faults log.old) (L.stalls log.old)) (counts (M.faults mail.old) (M.stalls mail.old)) (counts (O.faults out.old) (O.stalls out.old)))
+        (sinks (counts (L.faults log.new) (L.stalls log.new)) (counts (M.faults mail.new) (M.stalls mail.new)) (counts (O.faults out.new) (O.stalls out.new))) }
+    ensures line { OnWhole result (RanLine (at run.old.connections conn) (at run.new.connections conn) run.old.number run.new.number) }
+{
+    'answers: loop {
+        match next_request(run.alloc, run.connections.stream(conn)) {
+            Ok(Step::Need) => return Given::Whole,
+            Ok(Step::Got { request, used }) => {
+                run.connections.used(conn, used as usize);
+                match serve_request(run, log, mail, out, files, tables, conn, &request) {
+                    Given::Whole => {}
+                    stop => return stop,
+                }
+            }
+            Ok(Step::Refuse { status }) => {
+                run.connections.refuse(conn);
+                return serve_refusal(run, log, mail, out, conn, status);
+            }
+            Err(_) => return Given::Memory,
+        }
+    }
+}
+
+/// Serves the answers that a record completes.
+pub(crate) fn serve_event<F: Files, T: Tables, L: Sink, M: Sink, O: Sink>(
+    run: &mut Run,
+    log: &mut L,
+    mail: &mut M,
+    out: &mut O,
+    files: &mut F,
+    tables: &mut T,
+    event: &TraceEvent,
+) -> Given
+    requires { AreNumbered run.old.calls }
+    ensures site { run.new.site ≡ run.old.site }
+    ensures numbered { AreNumbered run.new.calls }
+    ensures kept { Kept (keepers run.old.calls.made run.old.calls.failed (F.answers files.old) (F.faults files.old) (T.answers tables.old) (T.faults tables.old))
+        (keepers run.new.calls.made run.new.calls.failed (F.answers files.new) (F.faults files.new) (T.answers tables.new) (T.faults tables.new)) }
+    ensures cause { CausedIn result
+        (sinks (counts (L.faults log.old) (L.stalls log.old)) (counts (M.faults mail.old) (M.stalls mail.old)) (counts (O.faults out.old) (O.stalls out.old)))
+        (sinks (counts (L.faults log.new) (L.stalls log.new)) (counts (M.faults mail.new) (M.stalls mail.new)) (counts (O.faults out.new) (O.stalls out.new))) }
+    ensures ran { (place : ℕ) (seen : List TraceEvent) → Hold run.old.connections seen
+        → RanEvent result (meaning run.old.site) seen (event.now, place) run.old.number run.new.number run.new.calls.made run.new.calls.failed run.new.connections
+        (world (L.written log.old) (M.written mail.old) (O.written out.old) (store_of (F.stored files.old) (T.stored tables.old)) run.old.calls.made)
+        (world (L.written log.new) (M.written mail.new) (O.written out.new) (store_of (F.stored files.new) (T.stored tables.new)) run.new.calls.made) }
+{
+    match event {
+        TraceEvent::Piece { conn, bytes } => {
+            match run.connections.add(*conn, bytes.as_slice()) {
+                Ok(()) => serve_connection(run, log, mail, out, files, tables, *conn),
+                Err(_) => Given::Memory,
+            }
+        }
+        TraceEvent::End { conn } => {
+            run.connections.end(*conn);
+            Given::Whole
+        }
+    }
+}
+
+/// How serving what was read ends.
+#[derive(Clone, Copy, Debug, PartialEq, Eq)]
+pub enum Ready {
+    /// More of the trace is wanted.
+    Wait,
+    /// No record stands at the offset, and none can come.
+    Bad { offset: u64 },
+    /// The trace is longer than its limit.
+    TooLong,
+    /// A sink failed, or took nothing.
+    Fault,
+    /// There was no memory.
+    Memory,
+    /// A request met what isn't built yet.
+    NotYet,
+}
+
+/// Serves the records that stand whole.
+pub(crate) fn serve_ready<F: Files, T: Tables, L: Sink, M: Sink, O: Sink>(
+    run: &mut Run,
+    log: &mut L,
+    mail: &mut M,
+    out: &mut O,
+    files: &mut F,
+    tables: &mut T,
+    reader: &mut TraceReader,
+) -> Ready
+    requires { AreNumbered run.old.calls }
+    ensures site { run.new.site ≡ run.old.site }
+    ensures numbered { AreNumbered run.new.calls }
+    ensures kept { Kept (keepers run.old.calls.made run.old.calls.failed (F.answers files.old) (F.faults files.old) (T.answers tables.old) (T.faults tables.old))
+        (keepers run.new.calls.made run.new.calls.failed (F.answers files.new) (F.faults files.new) (T.answers tables.new) (T.faults tables.new)) }
+    ensures cause { CausedIn (given_of result)
+        (sinks (counts (L.faults log.old) (L.stalls log.old)) (counts (M.faults mail.old) (M.stalls mail.old)) (counts (O.faults out.old) (O.stalls out.old)))
+        (sinks (counts (L.faults log.new) (L.stalls log.new)) (counts (M.faults mail.new) (M.stalls mail.new)) (counts (O.faults out.new) (O.stalls out.new))) }
+    ensures went { (seen : List TraceEvent) (b : ℕ) → Hold run.old.connections seen → Beyond b reader.old
+        → Went result (meaning run.old.site) b seen reader.old reader.new run.old.number run.new.number run.new.calls.made run.new.calls.failed run.new.connections
+        (world (L.written log.old) (M.written mail.old) (O.written out.old) (store_of (F.stored files.old) (T.stored tables.old)) run.old.calls.made)
+        (world (L.written log.new) (M.written mail.new) (O.written out.new) (store_of (F.stored files.new) (T.stored tables.new)) run.new.calls.made) }
+{
+    'records: loop {
+        match reader.next() {
+            Ok(Some(event)) => {
+                match serve_event(run, log, mail, out, files, tables, &event) {
+                    Given::Whole => {}
+                    Given::Fault => return Ready::Fault,
+                    Given::Memory => return Ready::Memory,
+                    Given::NotYet => return Ready::NotYet,
+                }
+            }
+            Ok(None) => return Ready::Wait,
+            Err(TraceFault::Bad { offset }) => return Ready::Bad { offset },
+            Err(TraceFault::TooLong) => return Ready::TooLong,
+            Err(TraceFault::Memory) => return Ready::Memory,
+        }
+    }
+}

@@ -1,0 +1,178 @@
+//! The top call.
+ghost use Rattle.std.specs.Prelude.{◌≡◌, ◌≢◌, ◌≤◌, ◌+◌, ◌<◌, [], ℕ, List, Some, None, ◌↔◌, map, string_bytes, length, OnOk};
+ghost use Rattle.resin_base.specs.Causes.{last_count};
+ghost use Rattle.resin_base.specs.Numbering.{RiseWithin, AreNumbered};
+ghost use Rattle.resin_trace.specs.Lines.{at};
+ghost use Rattle.resin_trace.specs.Seen.{fed};
+ghost use Rattle.resin_trace.specs.Verdicts.{IsGood};
+ghost use Rattle.resin_serve.specs.Ran.{world};
+ghost use Rattle.resin_serve.specs.Gives.{CausedIn, counts, sinks};
+ghost use Rattle.resin_serve.specs.Kept.{Kept, keepers};
+ghost use Rattle.resin_site.specs.Keeping.{Later, store_of};
+ghost use Rattle.resin_serve.specs.Asked.{meaning};
+ghost use Rattle.resin_serve.specs.Whole_run.{Runs, ReadCause, Finished, given_of_status};
+ghost use Rattle.resin_serve.specs.Words.{fuel_of};
+ghost use Rattle.resin_serve.specs.Headline.{Completes, Calm};
+ghost use Rattle.resin_serve.specs.declared.status.Status.TheVariants.{Usage};
+
+use crate::run::{Ready, Run, serve_ready};
+use crate::status::{Ended, Status};
+use crate::words::fuel_of;
+use resin_base::{Calls, FailList, Files, Sink, Source, Tables};
+use resin_site::Site;
+use resin_trace::{Connections, TraceFault, TraceReader};
+use std::alloc::{AllocError, Global};
+
+/// Serves a recorded trace over the keepers of files and of tables.
+///
+/// The words are `serve` or `serve --fuel N`; with all others the answer is Usage, and nothing is read or written. Otherwise the records of
+/// the trace are served as soon as they stand whole: each answer gives its log lines, its mail records and its output record, in that order,
+/// by a loop over `give` that is lent all that is left for that sink. The trace is read by a buffer of 65,536 bytes.
+pub fn serve<S: Source, O: Sink, L: Sink, M: Sink, F: Files, T: Tables>(
+    alloc: Global,
+    words: &[String],
+    trace: &mut S,
+    out: &mut O,
+    log: &mut L,
+    mail: &mut M,
+    files: &mut F,
+    tables: &mut T,
+) -> Ended
+    // Usage comes exactly where the words are none of the forms, and then nothing is read or written.
+    ensures usage { (result.status ≡ Usage) ↔ (fuel_of (map string_bytes words.now) ≡ None) }
+    ensures untouched { fuel_of (map string_bytes words.now) ≡ None
+        → (trace.new ≡ trace.old) × (out.new ≡ out.old) × (log.new ≡ log.old) × (mail.new ≡ mail.old) × (files.new ≡ files.old) × (tables.new ≡ tables.old)
+        × (result.made ≡ 0) × (result.failed ≡ []) }
+
+    // What the sinks gained and the keepers hold is the meaning's, as far as the status says.
+    ensures run { (fuel : ℕ) (all left : List ℕ) → fuel_of (map string_bytes words.now) ≡ Some fuel → S.left trace.old ≡ Some all → S.left trace.new ≡ Some left
+        → Runs result.status (meaning fuel) result.failed all left
+        (world (L.written log.old) (M.written mail.old) (O.written out.old) (store_of (F.stored files.old) (T.stored tables.old)) 0)
+        (world (L.written log.new) (M.written mail.new) (O.written out.new) (store_of (F.stored files.new) (T.stored tables.new)) result.made) }
+
+    // The failed calls are those that the keepers tell of, in order.
+    ensures kept { Kept (keepers 0 [] (F.answers files.old) (F.faults files.old) (T.answers tables.old) (T.faults tables.old))
+        (keepers result.made result.failed (F.answers files.new) (F.faults files.new) (T.answers tables.new) (T.faults tables.new)) }
+    ensures numbered { RiseWithin 0 result.made result.failed }
+    ensures as_many { F.faults files.new < last_count → T.faults tables.new < last_count
+        → length result.failed + (F.faults files.old + T.faults tables.old) ≤ F.faults files.new + T.faults tables.new }
+
+    // Each fault has its cause.
+    ensures cause { CausedIn (given_of_status result.status)
+        (sinks (counts (L.faults log.old) (L.stalls log.old)) (counts (M.faults mail.old) (M.stalls mail.old)) (counts (O.faults out.old) (O.stalls out.old)))
+        (sinks (counts (L.faults log.new) (L.stalls log.new)) (counts (M.faults mail.new) (M.stalls mail.new)) (counts (O.faults out.new) (O.stalls out.new))) }
+    ensures read { ReadCause result.status (S.faults trace.old) (S.faults trace.new) }
+
+    // A good trace over a calm outside is served to its end, unless memory is wanting or something isn't built.
+    ensures complete { (fuel : ℕ) (all left : List ℕ) → fuel_of (map string_bytes words.now) ≡ Some fuel → S.left trace.old ≡ Some all → S.left trace.new ≡ Some left → IsGood all
+        → Calm (S.faults trace.old) (S.faults trace.new)
+        (sinks (counts (L.faults log.old) (L.stalls log.old)) (counts (M.faults mail.old) (M.stalls mail.old)) (counts (O.faults out.old) (O.stalls out.old)))
+        (sinks (counts (L.faults log.new) (L.stalls log.new)) (counts (M.faults mail.new) (M.stalls mail.new)) (counts (O.faults out.new) (O.stalls out.new)))
+        (keepers 0 [] (F.answers files.old) (F.faults files.old) (T.answers tables.old) (T.faults tables.old))
+        (keepers result.made result.failed (F.answers files.new) (F.faults files.new) (T.answers tables.new) (T.faults tables.new))
+        → Completes result.status × (result.failed ≡ []) }
+{
+    let calls = Calls {
+        made: 0,
+        failed: FailList::new(alloc),
+    };
+    let Some(fuel) = fuel_of(words) else {
+        return Ended {
+            status: Status::Usage,
+            made: calls.made,
+            failed: calls.failed,
+        };
+    };
+    let Ok(site) = Site::new(alloc, fuel) else {
+        return Ended {
+            status: Status::Memory,
+            made: calls.made,
+            failed: calls.failed,
+        };
+    };
+    let mut run = Run {
+        alloc,
+        site,
+        calls,
+        number: 1,
+        connections: Connections::new(alloc),
+    };
+    let status = serve_trace(&mut run, trace, log, mail, out, files, tables);
+    Ended {
+        status,
+        made: run.calls.made,
+        failed: run.calls.failed,
+    }
+}
+
+// Serves a whole trace.
+fn serve_trace<S: Source, F: Files, T: Tables, L: Sink, M: Sink, O: Sink>(
+    run: &mut Run,
+    trace: &mut S,
+    log: &mut L,
+    mail: &mut M,
+    out: &mut O,
+    files: &mut F,
+    tables: &mut T,
+) -> Status
+    requires number { run.old.number ≡ 1 }
+    requires numbered { AreNumbered run.old.calls }
+    requires new { (c : ℕ) → at run.old.connections c ≡ None }
+    ensures serves { result ≢ Usage }
+    ensures kept { Kept (keepers run.old.calls.made run.old.calls.failed (F.answers files.old) (F.faults files.old) (T.answers tables.old) (T.faults tables.old))
+        (keepers run.new.calls.made run.new.calls.failed (F.answers files.new) (F.faults files.new) (T.answers tables.new) (T.faults tables.new)) }
+    ensures cause { CausedIn (given_of_status result)
+        (sinks (counts (L.faults log.old) (L.stalls log.old)) (counts (M.faults mail.old) (M.stalls mail.old)) (counts (O.faults out.old) (O.stalls out.old)))
+        (sinks (counts (L.faults log.new) (L.stalls log.new)) (counts (M.faults mail.new) (M.stalls mail.new)) (counts (O.faults out.new) (O.stalls out.new))) }
+    ensures read { ReadCause result (S.faults trace.old) (S.faults trace.new) }
+    ensures ran { (K all left : List ℕ) → Later run.new.calls.made run.new.calls.failed K → S.left trace.old ≡ Some all → S.left trace.new ≡ Some left
+        → Runs result (meaning run.old.site) K all left
+        (world (L.written log.old) (M.written mail.old) (O.written out.old) (store_of (F.stored files.old) (T.stored tables.old)) run.old.calls.made)
+        (world (L.written log.new) (M.written mail.new) (O.written out.new) (store_of (F.stored files.new) (T.stored tables.new)) run.new.calls.made) }
+{
+    let mut reader = TraceReader::new(run.alloc);
+    let mut buffer = [0u8; 65536];
+    'reads: loop {
+        match serve_ready(run, log, mail, out, files, tables, &mut reader) {
+            Ready::Wait => {}
+            Ready::Bad { offset } => return Status::BadTrace { offset },
+            Ready::TooLong => return Status::TraceTooLong,
+            Ready::Fault => return Status::WriteFault,
+            Ready::Memory => return Status::Memory,
+            Ready::NotYet => return Status::NotYet,
+        }
+        let count = match trace.take(&mut buffer) {
+            Ok(count) => count,
+            Err(_) => return Status::ReadFault,
+        };
+        if count == 0 {
+            return finished(&reader);
+        }
+        let Ok(()) = take_in(&mut reader, &buffer[..count]) else {
+            return Status::Memory;
+        };
+    }
+}
+
+// Feeds the reader. A trace that is too long shows once its records were handed out.
+fn take_in(reader: &mut TraceReader, piece: &[u8]) -> Result<(), AllocError>
+    ensures { OnOk result (reader.new ≡ fed reader.old piece.now) }
+{
+    match reader.feed(piece) {
+        Ok(()) => Ok(()),
+        Err(TraceFault::TooLong) => Ok(()),
+        Err(_) => Err(AllocError),
+    }
+}
+
+// How a run ends where the trace does.
+fn finished(reader: &TraceReader) -> Status
+    ensures { Finished reader.now result }
+{
+    match reader.finish() {
+        Ok(()) => Status::Ok,
+        Err(TraceFault::Bad { offset }) => Status::BadTrace { offset },
+        Err(TraceFault::TooLong) => Status::TraceTooLong,
+        Err(TraceFault::Memory) => Status::Memory,
+    }
+}
