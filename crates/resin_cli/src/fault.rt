@@ -1,0 +1,75 @@
+//! Why the program ends with another status than 0, and what it says then.
+
+use resin_serve::Status;
+use std::alloc::AllocError;
+use std::io;
+use thiserror::Error;
+
+/// Why the program ends with another status than 0.
+#[derive(Debug, Drop, Error)]
+pub(crate) enum Fault {
+    #[error("usage: serve [--fuel N] | sample N")]
+    Usage,
+    #[error("bad trace at {offset}")]
+    BadTrace { offset: u64 },
+    #[error("read fault")]
+    Read,
+    #[error("write fault")]
+    Write,
+    #[error("trace too long")]
+    TraceTooLong,
+    #[error("out of memory")]
+    Memory,
+    #[error("not built yet")]
+    NotYet,
+}
+
+impl Fault {
+    /// The fault that a status of the run is.
+    pub(crate) fn of_status(status: &Status) -> Option<Fault> {
+        match status {
+            Status::Ok => None,
+            Status::Usage => Some(Fault::Usage),
+            Status::BadTrace { offset } => Some(Fault::BadTrace { offset: *offset }),
+            Status::ReadFault => Some(Fault::Read),
+            Status::WriteFault => Some(Fault::Write),
+            Status::TraceTooLong => Some(Fault::TraceTooLong),
+            Status::Memory => Some(Fault::Memory),
+            Status::NotYet => Some(Fault::NotYet),
+        }
+    }
+
+    /// The exit status of the program.
+    pub(crate) fn code(&self) -> u8 {
+        self.status().code()
+    }
+
+    // The status that the fault stands for: what can't be opened is a read fault, like a trace that can't be read on.
+    fn status(&self) -> Status {
+        match self {
+            Fault::Usage => Status::Usage,
+            Fault::BadTrace { offset } => Status::BadTrace { offset: *offset },
+            Fault::Read => Status::ReadFault,
+            Fault::Write => Status::WriteFault,
+            Fault::TraceTooLong => Status::TraceTooLong,
+            Fault::Memory => Status::Memory,
+            Fault::NotYet => Status::NotYet,
+        }
+    }
+}
+
+impl From<AllocError> for Fault {
+    fn from(_: AllocError) -> Fault {
+        Fault::Memory
+    }
+}
+
+impl From<io::Error> for Fault {
+    /// A file that can't be opened is a read fault, but for want of memory.
+    fn from(error: io::Error) -> Fault {
+        match error.kind() {
+            io::ErrorKind::OutOfMemory => Fault::Memory,
+            _ => Fault::Read,
+        }
+    }
+}
