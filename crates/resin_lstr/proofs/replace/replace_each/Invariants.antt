@@ -1,0 +1,12 @@
+use Rattle.std.proofs.Common.{◌≡◌, ◌≤◌, length, take}
+use Rattle.resin_lstr.specs.Texts.{LONGEST}
+use Rattle.resin_lstr.specs.Runs.{last_end, text_of}
+use Rattle.resin_lstr.specs.Tables.{replaced}
+use Rattle.resin_lstr.proofs.replace.replace_each.Given as goal
+
+abbrev pub invariant-loop-run : goal.invariant-loop-run
+invariant-loop-run l = record {
+  at : l.from ≡ last_end 0 (take l.run-index l.runs);
+  is : l.out ≡ replaced l.table (take l.from (text_of l.bytes l.runs));
+  short : length l.out ≤ LONGEST;
+}

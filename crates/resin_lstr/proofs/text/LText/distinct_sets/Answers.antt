@@ -1,0 +1,11 @@
+use Rattle.std.proofs.Common.{ap, ◌∙◌, sym}
+use Rattle.resin_label.specs.Sets.{same}
+use Rattle.resin_lstr.specs.Texts.{distinct, sets_of}
+use Rattle.resin_lstr.specs.Runs.{spell}
+use Rattle.resin_lstr.proofs.Zips.{sets_text}
+use Rattle.resin_lstr.proofs.text.LText.distinct_sets.Goals as goal
+
+pub returns : goal.returns
+returns c =
+    c.from_vec.ensures ∙ c.in_ok-sets_once.ensures
+    ∙ ap (distinct same) (ap (spell 0) c.deref.ensures.value ∙ sym (sets_text _ _ c.self.invariant) ∙ ap sets_of c.self.view_is)

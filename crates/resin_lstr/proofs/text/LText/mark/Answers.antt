@@ -1,0 +1,14 @@
+use Rattle.std.proofs.Common.{◌∙◌, ap}
+use Rattle.std.specs.List.{zip}
+use Rattle.std.specs.Prelude.{map}
+use Rattle.std.specs.Rc.{rc_slice_items}
+use Rattle.resin_label.specs.Sets.{NumberSet, insert}
+use Rattle.resin_lstr.specs.Runs.{spell}
+use Rattle.resin_lstr.proofs.Zips.{marked_text}
+use Rattle.resin_lstr.proofs.text.LText.mark.Goals as goal
+
+pub returns : goal.returns
+returns c =
+    ap (λ bs. zip bs (spell 0 (rc_slice_items c.in_ok-runs-2.runs))) c.in_ok-bytes.ensures.cases
+    ∙ marked_text (rc_slice_items c.self.inside.bytes) (rc_slice_items c.self.inside.runs) c.self.invariant c.self.view_is c.args.n (rc_slice_items c.in_ok-runs-2.runs)
+    (ap (spell 0) c.in_ok-runs-2.ensures ∙ c.in_ok-runs.ensures.spelled ∙ ap (λ rs. map (λ (s : NumberSet). insert s c.args.n) (spell 0 rs)) c.deref.ensures.value)

@@ -1,0 +1,193 @@
+//! Texts made piece by piece.
+ghost use Rattle.std.specs.Prelude.{◌≡◌, ◌==◌, ℕ, ◌+◌, ◌-◌, ◌≤◌, ◌++◌, [], length, take, drop, slice_range, IfOk};
+ghost use Rattle.resin_lstr.specs.Texts.{LONGEST, carrying};
+ghost use Rattle.resin_lstr.specs.Tables.{replacement};
+ghost use Rattle.resin_lstr.specs.Faults.{GivesText};
+ghost use Rattle.std.specs.List.{flat_map};
+
+use crate::runs::{append_runs, push_run};
+use crate::table::ByteTable;
+use crate::text::{LText, MAX_LEN, Run, TextFault};
+use resin_label::PSet;
+use std::alloc::{AllocError, Global};
+use std::marker::Model;
+use std::rc::RcSlice;
+
+/// A labelled text under way. Joining many pieces takes time in proportion to the bytes and runs of the pieces. A call that
+/// fails drops what was made so far; the pieces stay as they were.
+#[derive(Drop)]
+pub struct Builder {
+    bytes: Vec<u8>,
+    runs: Vec<Run>,
+}
+
+impl Model for Builder {
+    ghost use Rattle.std.specs.Prelude.{length};
+    ghost use Rattle.resin_lstr.specs.Texts.{Text, text_code};
+
+    ghost Value = { Text };
+
+    ghost coded = { text_code };
+
+    ghost use Rattle.resin_lstr.specs.Runs.{text_of, AreRunsOf};
+
+    ghost view = { λ a. text_of a.bytes.items a.runs.items };
+
+    ghost invariant = { λ a. AreRunsOf (length a.bytes.items) a.runs.items };
+}
+
+impl Builder {
+    /// The empty text, which takes no memory.
+    pub fn new(alloc: Global) -> Builder
+        ensures { result ≡ [] }
+    {
+        Builder {
+            bytes: Vec::new(alloc),
+            runs: Vec::new(alloc),
+        }
+    }
+
+    /// The number of bytes so far, at most 16,777,216.
+    pub fn len(&self) -> usize
+        ensures value { result ≡ length self.now }
+        ensures short { result ≤ LONGEST }
+    {
+        self.bytes.len()
+    }
+
+    /// Whether there is no byte yet.
+    pub fn is_empty(&self) -> bool
+        ensures { result ≡ (length self.now == 0) }
+    {
+        self.len() == 0
+    }
+
+    /// Puts `t` last. `TooLong` comes where the text would pass 16,777,216 bytes.
+    pub fn append(self, t: &LText) -> Result<Builder, TextFault>
+        ensures { GivesText result (self ++ t.now) }
+    {
+        self.append_part(t, 0, t.len())
+    }
+
+    /// Puts the bytes of `t` from `from` to `to` last, each with its set. `TooLong` comes where the text would pass
+    /// 16,777,216 bytes.
+    pub fn append_part(self, t: &LText, from: usize, to: usize) -> Result<Builder, TextFault>
+        requires ordered { from ≤ to }
+        requires within { to ≤ length t.now }
+        ensures { GivesText result (self ++ slice_range t.now from to) }
+    {
+        if to - from > MAX_LEN - self.len() {
+            return Err(TextFault::TooLong);
+        }
+        Ok(self.add_part(t, from, to)?)
+    }
+
+    /// Puts `bytes` last, each with the set `set`. `TooLong` comes where the text would pass 16,777,216 bytes.
+    pub fn append_bytes(self, bytes: &[u8], set: &PSet) -> Result<Builder, TextFault>
+        ensures { GivesText result (self ++ carrying set.now bytes.now) }
+    {
+        if bytes.len() > MAX_LEN - self.len() {
+            return Err(TextFault::TooLong);
+        }
+        Ok(self.add_bytes(bytes, set)?)
+    }
+
+    // The same where there is room.
+    pub(crate) fn add_part(self, t: &LText, from: usize, to: usize) -> Result<Builder, AllocError>
+        requires ordered { from ≤ to }
+        requires within { to ≤ length t.now }
+        requires short { length self + (to - from) ≤ LONGEST }
+        ensures { IfOk result (λ b. b ≡ self ++ slice_range t.now from to) }
+    {
+        let _len = t.len();
+        let Builder {
+            mut bytes,
+            mut runs,
+        } = self;
+        append_runs(&mut runs, &t.runs, from as u32, to as u32)?;
+        bytes.extend_from_slice(&t.bytes[from..to])?;
+        Ok(Builder { bytes, runs })
+    }
+
+    pub(crate) fn add_bytes(self, b: &[u8], set: &PSet) -> Result<Builder, AllocError>
+        requires { length self + length b.now ≤ LONGEST }
+        ensures { IfOk result (λ t. t ≡ self ++ carrying set.now b.now) }
+    {
+        let Builder {
+            mut bytes,
+            mut runs,
+        } = self;
+        bytes.extend_from_slice(b)?;
+        push_run(&mut runs, bytes.len() as u32, set.clone()?)?;
+        Ok(Builder { bytes, runs })
+    }
+
+    // Puts what replaces each byte of `b` last, with the set `set`.
+    pub(crate) fn append_replaced(
+        self,
+        b: &[u8],
+        table: &ByteTable,
+        set: &PSet,
+    ) -> Result<Builder, TextFault>
+        ensures { GivesText result (self ++ carrying set.now (flat_map (replacement table.now) b.now)) }
+    {
+        let Builder {
+            mut bytes,
+            mut runs,
+        } = self;
+        table.push_rows(&mut bytes, b)?;
+        push_run(&mut runs, bytes.len() as u32, set.clone()?)?;
+        Ok(Builder { bytes, runs })
+    }
+
+    /// The text.
+    pub fn finish(self) -> Result<LText, AllocError>
+        ensures { IfOk result (λ t. t ≡ self) }
+    {
+        let Builder { bytes, runs } = self;
+        let bytes = RcSlice::from_vec(bytes)?;
+        let runs = RcSlice::from_vec(runs)?;
+        Ok(LText { bytes, runs })
+    }
+}
+
+#[cfg(test)]
+mod tests {
+    use super::*;
+    use std::test::Fail;
+
+    // Joins `a` and `b` in turn, and counts the bytes and runs that were moved when room was made.
+    fn joined(
+        alloc: Global,
+        a: &LText,
+        b: &LText,
+        pieces: u32,
+    ) -> Result<(Builder, usize), TextFault> {
+        let mut out = Builder::new(alloc);
+        let mut moved = 0usize;
+        for i in 0..pieces {
+            let room = (out.bytes.capacity(), out.runs.capacity());
+            let held = (out.bytes.len(), out.runs.len());
+            out = out.append(if i % 2 == 0 { a } else { b })?;
+            if out.bytes.capacity() != room.0 {
+                moved = moved.saturating_add(held.0);
+            }
+            if out.runs.capacity() != room.1 {
+                moved = moved.saturating_add(held.1);
+            }
+        }
+        Ok((out, moved))
+    }
+
+    #[test]
+    fn joining_is_linear(rt: HostRuntime) -> Result<(), Fail> {
+        let alloc = rt.alloc();
+        let a = LText::plain(alloc, b"abc")?.mark(alloc, 1)?;
+        let b = LText::plain(alloc, b"d")?.mark(alloc, 2)?;
+        let (out, moved) = joined(alloc, &a, &b, 10_000)?;
+        assert_eq!(rt; out.len(), 20_000);
+        assert_eq!(rt; out.runs.len(), 10_000);
+        assert!(rt; moved <= 2 * 30_000, "moved {moved}");
+        Ok(())
+    }
+}
