@@ -1,0 +1,4 @@
+pub mod Pairs
+pub mod Keeps
+pub mod Compared
+pub mod LawLemmas

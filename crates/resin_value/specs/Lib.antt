@@ -1,0 +1,9 @@
+pub mod Keys
+pub mod Trees
+pub mod Arrays
+pub mod Seen
+pub mod Falls
+pub mod Changes
+pub mod Compare
+pub mod Values
+pub mod Laws
