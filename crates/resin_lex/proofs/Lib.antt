@@ -1,0 +1,11 @@
+pub mod Turns
+pub mod Told
+pub mod MarksFound
+pub mod CodeFound
+pub mod Found
+pub mod MarksSound
+pub mod CodeSound
+pub mod Stood
+pub mod Lexed
+pub mod Once
+pub mod LineTurns

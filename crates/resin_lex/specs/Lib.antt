@@ -1,0 +1,9 @@
+pub mod Modes
+pub mod Casts
+pub mod Marks
+pub mod First
+pub mod Kinds
+pub mod Grammar
+pub mod Lexes
+pub mod Reads
+pub mod Lines

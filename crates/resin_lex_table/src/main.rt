@@ -1,0 +1,123 @@
+//! Prints the tokens of source texts, one text a line. In the input `\n`, `\r`, `\t`, `\\` and `\xhh` stand for a byte.
+//! Its input and its output, which was worked out by hand from the PHP manual and this project's profile, are the table of
+//! the lexer's tests.
+#![tactic(auto)]
+
+ghost use Rattle.std.specs.Prelude.{◌<◌, length};
+
+use resin_lex::{ParseFault, TokenKind, TokenList, tokens};
+use std::alloc::{AllocError, Global};
+use std::io;
+
+fn push_byte(out: &mut String, b: u8) -> Result<(), AllocError> {
+    match b {
+        b'\n' => write!(out, "\\n"),
+        b'\r' => write!(out, "\\r"),
+        b'\t' => write!(out, "\\t"),
+        32..=126 => out.push(b as char),
+        _ => write!(out, "\\x{b:02x}"),
+    }
+}
+
+fn push_bytes(out: &mut String, name: &str, bytes: &[u8]) -> Result<(), AllocError> {
+    write!(out, "{name}(")?;
+    for b in bytes {
+        push_byte(out, *b)?;
+    }
+    out.push(')')
+}
+
+fn push_kind(out: &mut String, kind: &TokenKind) -> Result<(), AllocError> {
+    match kind {
+        TokenKind::Inline(b) => push_bytes(out, "inline", b.as_slice()),
+        TokenKind::Name(b) => push_bytes(out, "name", b.as_slice()),
+        TokenKind::Keyword(keyword) => write!(out, "{keyword:?}"),
+        TokenKind::Variable(b) => push_bytes(out, "var", b.as_slice()),
+        TokenKind::Int(n) => write!(out, "int({n})"),
+        TokenKind::Text(b) => push_bytes(out, "text", b.as_slice()),
+        TokenKind::Cast(cast) => write!(out, "cast({cast:?})"),
+        TokenKind::Mark(mark) => write!(out, "{mark:?}"),
+        TokenKind::TextOpen => write!(out, "open"),
+        TokenKind::Stretch(b) => push_bytes(out, "part", b.as_slice()),
+        TokenKind::IndexText(b) => push_bytes(out, "index", b.as_slice()),
+        TokenKind::IndexVariable(b) => push_bytes(out, "indexvar", b.as_slice()),
+        TokenKind::Property(b) => push_bytes(out, "prop", b.as_slice()),
+        TokenKind::BraceOpen => write!(out, "brace"),
+        TokenKind::TextClose => write!(out, "close"),
+    }
+}
+
+fn shown(alloc: Global, list: &TokenList) -> Result<String, AllocError> {
+    let mut out = String::new(alloc);
+    for token in list.tokens.as_slice() {
+        if !out.is_empty() {
+            out.push(' ')?;
+        }
+        push_kind(&mut out, &token.kind)?;
+        let from = token.from;
+        let to = token.to;
+        write!(out, "{from}-{to}")?;
+    }
+    Ok(out)
+}
+
+fn answer(alloc: Global, source: &[u8]) -> Result<String, AllocError> {
+    if source.len() > 16_777_216 {
+        return String::from_str(alloc, "too long");
+    }
+    match tokens(alloc, source) {
+        Ok(list) => shown(alloc, &list),
+        Err(ParseFault::Syntax { offset }) => format!(in alloc; "fault {offset}"),
+        Err(other) => format!(in alloc; "{other:?}"),
+    }
+}
+
+fn hexadecimal(b: u8) -> u8
+    ensures { result < 16 }
+{
+    match b {
+        b'0'..=b'9' => b - b'0',
+        b'a'..=b'f' => b - b'a' + 10,
+        _ => 0,
+    }
+}
+
+/// The byte that an escape stands for, and how many bytes it takes.
+fn escaped(s: &[u8]) -> (u8, usize)
+    requires { 0 < length s.now }
+    ensures { 0 < result.1 }
+{
+    match s {
+        [b'\\', b'x', high, low, ..] => (16 * hexadecimal(*high) + hexadecimal(*low), 4),
+        [b'\\', b'n', ..] => (b'\n', 2),
+        [b'\\', b'r', ..] => (b'\r', 2),
+        [b'\\', b't', ..] => (b'\t', 2),
+        [b'\\', b'\\', ..] => (b'\\', 2),
+        _ => (s[0], 1),
+    }
+}
+
+fn unescaped(alloc: Global, line: &[u8]) -> Result<Vec<u8>, AllocError> {
+    let mut out = Vec::new(alloc);
+    let mut skip = 0usize;
+    for i in 0..line.len() {
+        if skip > 0 {
+            skip -= 1;
+        } else {
+            let (b, taken) = escaped(&line[i..]);
+            out.push(b)?;
+            skip = taken - 1;
+        }
+    }
+    Ok(out)
+}
+
+fn main(rt: HostRuntime) -> io::Result<()> {
+    for line in rt.lines(rt.alloc()) {
+        let line = line?;
+        let source = unescaped(rt.alloc(), line.as_bytes())?;
+        let text = answer(rt.alloc(), &source)?;
+        rt.println(text)?;
+    }
+    Ok(())
+}

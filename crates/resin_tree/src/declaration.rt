@@ -1,0 +1,155 @@
+//! Programs and their declarations. Types and the words `public`, `protected`, `private` and `final` leave no trace.
+ghost use Rattle.std.specs.Prelude.{◌≡◌, IfOk};
+
+use crate::expression::Literal;
+use crate::statement::Stmt;
+use resin_items::{Items, Shared, SharedBytes};
+use std::alloc::AllocError;
+
+/// A constant expression: the value of a property or a parameter that is given no other. A `-` before an integer is
+/// part of the number.
+#[cycle(constants)]
+#[derive(Debug, Drop)]
+pub enum Constant {
+    Literal(Literal),
+    Array(Items<ConstantItem>),
+}
+
+/// One item of a constant array.
+#[cycle(constants)]
+#[derive(Debug, Drop)]
+pub struct ConstantItem {
+    /// What stands before `=>`, where it is written.
+    pub key: Option<Constant>,
+    pub value: Constant,
+}
+
+/// A parameter, by its name without the `$`.
+#[derive(Debug, Drop)]
+pub struct Parameter {
+    pub name: SharedBytes,
+    pub default: Option<Constant>,
+}
+
+/// A function or a method. Its parameters and its body are shared, so a copy takes no memory.
+#[derive(Debug, Drop)]
+pub struct Function {
+    /// The line of the declaration's first token, from 1.
+    pub line: u32,
+    /// The name as it is written.
+    pub name: SharedBytes,
+    pub parameters: Shared<Items<Parameter>>,
+    pub body: Shared<Items<Stmt>>,
+}
+
+/// A property, by its name without the `$`.
+#[derive(Debug, Drop)]
+pub struct Property {
+    pub name: SharedBytes,
+    pub default: Option<Constant>,
+}
+
+/// A class. Its members are shared, so a copy takes no memory.
+#[derive(Debug, Drop)]
+pub struct ClassDecl {
+    /// The line of the declaration's first token, from 1.
+    pub line: u32,
+    /// The name as it is written.
+    pub name: SharedBytes,
+    /// The name behind `extends`, where it is written.
+    pub parent: Option<SharedBytes>,
+    /// The properties in their order.
+    pub properties: Shared<Items<Property>>,
+    /// The methods in their order.
+    pub methods: Shared<Items<Function>>,
+}
+
+/// What stands at the top level of a file.
+#[derive(Debug, Drop)]
+pub enum Item {
+    Function(Function),
+    Class(ClassDecl),
+    Statement(Stmt),
+}
+
+/// A whole file.
+#[derive(Debug, Drop)]
+pub struct Program {
+    pub items: Items<Item>,
+}
+
+impl Clone for Function {
+    ghost use Rattle.std.specs.Prelude.{◌≡◌};
+
+    ghost is_clone = { λ f copy. copy ≡ f };
+
+    /// One more owner of the same parts. It fails only where a count of owners is full.
+    fn clone(&self) -> Result<Function, AllocError> {
+        Ok(Function {
+            line: self.line,
+            name: self.name.clone()?,
+            parameters: self.parameters.clone()?,
+            body: self.body.clone()?,
+        })
+    }
+}
+
+/// One more owner of a name, where there is one.
+fn shared_name(name: &Option<SharedBytes>) -> Result<Option<SharedBytes>, AllocError>
+    ensures { IfOk result (λ copy. copy ≡ name.now) }
+{
+    match name {
+        Some(name) => Ok(Some(name.clone()?)),
+        None => Ok(None),
+    }
+}
+
+impl Clone for ClassDecl {
+    ghost use Rattle.std.specs.Prelude.{◌≡◌};
+
+    ghost is_clone = { λ c copy. copy ≡ c };
+
+    /// One more owner of the same parts. It fails only where a count of owners is full.
+    fn clone(&self) -> Result<ClassDecl, AllocError> {
+        Ok(ClassDecl {
+            line: self.line,
+            name: self.name.clone()?,
+            parent: shared_name(&self.parent)?,
+            properties: self.properties.clone()?,
+            methods: self.methods.clone()?,
+        })
+    }
+}
+
+#[cfg(test)]
+mod tests {
+    use super::*;
+    use std::test::Fail;
+
+    #[test]
+    fn copies_share_their_parts(rt: HostRuntime) -> Result<(), Fail> {
+        let alloc = rt.alloc();
+        let function = Function {
+            line: 3,
+            name: SharedBytes::from_slice(alloc, b"f")?,
+            parameters: Shared::new(alloc, Items::new(alloc))?,
+            body: Shared::new(alloc, Items::new(alloc))?,
+        };
+        let class = ClassDecl {
+            line: 4,
+            name: SharedBytes::from_slice(alloc, b"C")?,
+            parent: Some(SharedBytes::from_slice(alloc, b"D")?),
+            properties: Shared::new(alloc, Items::new(alloc))?,
+            methods: Shared::new(alloc, Items::new(alloc))?,
+        };
+        assert_eq!(rt; function.clone()?.name.as_slice(), b"f".as_slice());
+        assert_eq!(rt; function.clone()?.line, 3);
+        assert_eq!(rt; class.clone()?.name.as_slice(), b"C".as_slice());
+        let copy = class.clone()?;
+        assert!(rt; copy.parent.is_some());
+        if let Some(parent) = &copy.parent {
+            assert_eq!(rt; parent.as_slice(), b"D".as_slice());
+        }
+        Ok(())
+    }
+}
