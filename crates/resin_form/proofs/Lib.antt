@@ -1,0 +1,11 @@
+pub mod Cases
+pub mod Shrinks
+pub mod Local
+pub mod Grows
+pub mod Plenty
+pub mod Exact
+pub mod Fronts
+pub mod Loops
+pub mod Drops
+pub mod Turns
+pub mod Gives

@@ -1,0 +1,5 @@
+pub mod Form
+pub mod Reading
+pub mod Meaning
+pub mod Reads
+pub mod Parity

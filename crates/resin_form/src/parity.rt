@@ -1,0 +1,215 @@
+//! A small grammar, as an example of how one is read: sums of ones, with brackets, and whether they are odd.
+
+ghost use Rattle.std.specs.Prelude.{◌≡◌, Bool, List, ◌++◌};
+ghost use Rattle.resin_form.specs.Meaning.{IsFront, IsTree, always, reading};
+ghost use Rattle.resin_form.specs.Parity as spec;
+ghost use Rattle.resin_form.specs.Parity.{Bracketed, Gives, Nests, behind, under};
+ghost use Rattle.resin_form.specs.Reads.{Reads};
+
+use crate::cursor::Cursor;
+use crate::fault::Fault;
+
+/// A sign of a sum.
+#[derive(Clone, Copy, Debug, PartialEq, Eq)]
+pub enum Sign {
+    One,
+    Plus,
+    Open,
+    Close,
+}
+
+fn begins_term(sign: Sign) -> bool
+    ensures { result ≡ spec.begins_term sign }
+{
+    match sign {
+        Sign::One => true,
+        Sign::Open => true,
+        _ => false,
+    }
+}
+
+fn is_plus(sign: Sign) -> bool
+    ensures { result ≡ spec.is_plus sign }
+{
+    match sign {
+        Sign::Plus => true,
+        _ => false,
+    }
+}
+
+fn is_close(sign: Sign) -> bool
+    ensures { result ≡ spec.is_close sign }
+{
+    match sign {
+        Sign::Close => true,
+        _ => false,
+    }
+}
+
+fn differs(odd: bool, other: bool) -> bool
+    ensures { result ≡ spec.differs odd other }
+{
+    if odd { !other } else { other }
+}
+
+#[derive(Clone, Copy)]
+struct Parser<F> {
+    /// How many brackets may still open in one another.
+    depth: usize,
+    bracketed: F,
+}
+
+impl<F: Fn(&mut Cursor<'_, Sign>, usize) -> Result<bool, Fault>> Parser<F> {
+    fn nested(&self, signs: &mut Cursor<'_, Sign>) -> Result<bool, Fault>
+        requires { Nests self.now.depth (F.pre self.now.bracketed) (F.post self.now.bracketed) }
+        ensures { Reads (reading spec.rules always self.now.depth Bracketed signs.old) result signs.new }
+    {
+        (self.bracketed)(signs, self.depth)
+    }
+
+    /// What an opening bracket opens.
+    #[tactic(auto, unfolding(crate::specs::Parity::opened))]
+    fn opened(&self, signs: &mut Cursor<'_, Sign>) -> Result<bool, Fault>
+        requires { Nests self.now.depth (F.pre self.now.bracketed) (F.post self.now.bracketed) }
+        ensures { Reads (behind self.now.depth spec.opened signs.old) result signs.new }
+    {
+        if self.depth == 0 {
+            return Err(Fault::TooDeep);
+        }
+        self.nested(signs)
+    }
+
+    fn term(&self, signs: &mut Cursor<'_, Sign>, sign: Sign) -> Result<bool, Fault>
+        requires { Nests self.now.depth (F.pre self.now.bracketed) (F.post self.now.bracketed) }
+        ensures { Reads (behind self.now.depth (spec.term sign) signs.old) result signs.new }
+    {
+        match sign {
+            Sign::Open => self.opened(signs),
+            _ => Ok(true),
+        }
+    }
+
+    fn next_term(&self, signs: &mut Cursor<'_, Sign>) -> Result<bool, Fault>
+        requires { Nests self.now.depth (F.pre self.now.bracketed) (F.post self.now.bracketed) }
+        ensures { Reads (under self.now.depth spec.next_term signs.old) result signs.new }
+    {
+        match signs.peek() {
+            Some(next) if begins_term(*next) => {
+                signs.skip(next);
+                self.term(signs, *next)
+            }
+            _ => Err(Fault::Syntax),
+        }
+    }
+
+    #[tactic(auto, unfolding(crate::specs::Parity::added))]
+    fn added(&self, signs: &mut Cursor<'_, Sign>, odd: bool) -> Result<bool, Fault>
+        requires { Nests self.now.depth (F.pre self.now.bracketed) (F.post self.now.bracketed) }
+        ensures { Reads (under self.now.depth (spec.added odd) signs.old) result signs.new }
+    {
+        let other = self.next_term(signs)?;
+        Ok(differs(odd, other))
+    }
+
+    fn more(&self, signs: &mut Cursor<'_, Sign>, first: bool) -> Result<bool, Fault>
+        requires { Nests self.now.depth (F.pre self.now.bracketed) (F.post self.now.bracketed) }
+        ensures { Reads (under self.now.depth (spec.more first) signs.old) result signs.new }
+    {
+        let mut odd = first;
+        'turns: while let Some(next) = signs.peek() {
+            if !is_plus(*next) {
+                break;
+            }
+            signs.skip(next);
+            odd = self.added(signs, odd)?;
+        }
+        Ok(odd)
+    }
+
+    #[tactic(auto, unfolding(crate::specs::Parity::sum))]
+    fn sum(&self, signs: &mut Cursor<'_, Sign>) -> Result<bool, Fault>
+        requires { Nests self.now.depth (F.pre self.now.bracketed) (F.post self.now.bracketed) }
+        ensures { Reads (under self.now.depth spec.sum signs.old) result signs.new }
+    {
+        let first = self.next_term(signs)?;
+        self.more(signs, first)
+    }
+
+    #[tactic(auto, unfolding(crate::specs::Parity::bracketed))]
+    fn in_brackets(&self, signs: &mut Cursor<'_, Sign>) -> Result<bool, Fault>
+        requires { Nests self.now.depth (F.pre self.now.bracketed) (F.post self.now.bracketed) }
+        ensures { Reads (under self.now.depth spec.bracketed signs.old) result signs.new }
+    {
+        let odd = self.sum(signs)?;
+        match signs.peek() {
+            Some(next) if is_close(*next) => {
+                signs.skip(next);
+                Ok(odd)
+            }
+            _ => Err(Fault::Syntax),
+        }
+    }
+}
+
+/// What stands in brackets, behind the opening one.
+#[tactic(auto, unfolding(crate::specs::Meaning::reading))]
+fn bracketed(signs: &mut Cursor<'_, Sign>, depth: usize) -> Result<bool, Fault>
+    ensures { Reads (reading spec.rules always depth Bracketed signs.old) result signs.new }
+{
+    if depth == 0 {
+        return Err(Fault::TooDeep);
+    }
+    Parser {
+        depth: depth - 1,
+        bracketed,
+    }
+    .in_brackets(signs)
+}
+
+/// Whether the sum that the signs begin with is odd: the longest run of signs that is the front of a sum, where that
+/// is one. What is left is behind it, or from the fault on. At most `depth` brackets may be open in one another.
+pub fn is_odd(signs: &mut Cursor<'_, Sign>, depth: usize) -> Result<bool, Fault>
+    ensures { Gives depth signs.old result signs.new }
+{
+    Parser { depth, bracketed }.sum(signs)
+}
+
+/// A law of the grammar: a list of signs is one sum at most, and what a front of a sum begins with is a front too.
+pub fn sums_are_read_one_way()
+    ensures one_value { (w : List Sign) (x y : Bool) → IsTree spec.rules spec.sum w x → IsTree spec.rules spec.sum w y → x ≡ y }
+    ensures fronts { (u more : List Sign) → IsFront spec.rules spec.sum (u ++ more) → IsFront spec.rules spec.sum u }
+{}
+
+#[cfg(test)]
+mod tests {
+    use super::*;
+    use std::test::Fail;
+
+    fn outcome(signs: &[Sign], depth: usize) -> (usize, Result<bool, Fault>) {
+        let mut cursor = Cursor::new(signs);
+        let found = is_odd(&mut cursor, depth);
+        (signs.len() - cursor.left().min(signs.len()), found)
+    }
+
+    /// The places and answers were worked out by hand.
+    #[test]
+    fn sums_with_brackets(rt: HostRuntime) -> Result<(), Fail> {
+        use Sign::{Close, One, Open, Plus};
+        sums_are_read_one_way();
+        assert_eq!(rt; outcome(&[One], 0), (1, Ok(true)));
+        assert_eq!(rt; outcome(&[One, Plus, One], 0), (3, Ok(false)));
+        assert_eq!(rt; outcome(&[One, One], 0), (1, Ok(true)));
+        assert_eq!(rt; outcome(&[], 3), (0, Err(Fault::Syntax)));
+        assert_eq!(rt; outcome(&[Close], 3), (0, Err(Fault::Syntax)));
+        assert_eq!(rt; outcome(&[One, Plus], 3), (2, Err(Fault::Syntax)));
+        assert_eq!(rt;
+            outcome(&[Open, One, Plus, One, Close, Plus, One], 1),
+            (7, Ok(true))
+        );
+        assert_eq!(rt; outcome(&[Open, One, Open], 1), (2, Err(Fault::Syntax)));
+        assert_eq!(rt; outcome(&[Open, One, Close], 0), (1, Err(Fault::TooDeep)));
+        assert_eq!(rt; outcome(&[Open, Open, Close], 1), (2, Err(Fault::TooDeep)));
+        assert_eq!(rt; outcome(&[Open, Open, Close], 2), (2, Err(Fault::Syntax)));
+        Ok(())
+    }
+}
