@@ -206,8 +206,15 @@ fn failures_are_answered(rt: HostRuntime) -> Result<(), Fail> {
         assert_eq!(rt; outcome.response.as_slice(), *response);
         assert_eq!(rt; calls.failed.as_slice(), *failed);
     }
+    Ok(())
+}
 
-    // a `boot.php` isn't run yet
+/// A `boot.php` isn't run yet.
+#[test]
+fn a_boot_file_is_not_built(rt: HostRuntime) -> Result<(), Fail> {
+    let mut site = Site::new(rt.alloc(), 1)?;
+    let mut files = files(rt.alloc(), FailList::new(rt.alloc()))?;
+    let mut tables = FakeTables::new(rt.alloc(), FailList::new(rt.alloc()));
     files.put(b"boot.php", b"", b"")?;
     let (outcome, calls) = served(
         rt.alloc(),
