@@ -1,4 +1,6 @@
 //! Prints the tokens of source texts, one text a line. In the input `\n`, `\r`, `\t`, `\\` and `\xhh` stand for a byte.
+//! A line `@COUNT@FRONT@PART@BACK` stands for the text of FRONT, COUNT times PART and BACK, of which only the number of
+//! tokens is printed: texts of a million parts, on which a lexer that reads bytes again and again doesn't end in time.
 //! Its input and its output, which was worked out by hand from the PHP manual and this project's profile, are the table of
 //! the lexer's tests.
 #![tactic(auto)]
@@ -112,11 +114,49 @@ fn unescaped(alloc: Global, line: &[u8]) -> Result<Vec<u8>, AllocError> {
     Ok(out)
 }
 
+fn decimal_of(digits: &[u8]) -> u32 {
+    digits.iter().fold(0, |n: u32, b| n.wrapping_mul(10).wrapping_add((*b).wrapping_sub(b'0') as u32))
+}
+
+/// The text of a line of the long form: its front, its part so many times, its back.
+fn repeated(alloc: Global, line: &[u8]) -> Result<Vec<u8>, AllocError> {
+    let mut pieces = line.split(|b| *b == b'@');
+    let count = decimal_of(pieces.next().unwrap_or(&[]));
+    let mut out = unescaped(alloc, pieces.next().unwrap_or(&[]))?;
+    let part = unescaped(alloc, pieces.next().unwrap_or(&[]))?;
+    for _ in 0..count {
+        out.extend_from_slice(&part)?;
+    }
+    out.extend_from_slice(&unescaped(alloc, pieces.next().unwrap_or(&[]))?)?;
+    Ok(out)
+}
+
+/// How many tokens a text has, or its fault.
+fn counted(alloc: Global, source: &[u8]) -> Result<String, AllocError> {
+    if source.len() > 16_777_216 {
+        return String::from_str(alloc, "too long");
+    }
+    match tokens(alloc, source) {
+        Ok(list) => {
+            let count = list.tokens.as_slice().len();
+            format!(in alloc; "{count} tokens")
+        }
+        Err(ParseFault::Syntax { offset }) => format!(in alloc; "fault {offset}"),
+        Err(other) => format!(in alloc; "{other:?}"),
+    }
+}
+
+fn answer_to(alloc: Global, line: &[u8]) -> Result<String, AllocError> {
+    match line {
+        [b'@', long @ ..] => counted(alloc, &repeated(alloc, long)?),
+        _ => answer(alloc, &unescaped(alloc, line)?),
+    }
+}
+
 fn main(rt: HostRuntime) -> io::Result<()> {
     for line in rt.lines(rt.alloc()) {
         let line = line?;
-        let source = unescaped(rt.alloc(), line.as_bytes())?;
-        let text = answer(rt.alloc(), &source)?;
+        let text = answer_to(rt.alloc(), line.as_bytes())?;
         rt.println(text)?;
     }
     Ok(())
