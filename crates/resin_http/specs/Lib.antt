@@ -3,3 +3,4 @@ pub mod Fields
 pub mod Stream
 pub mod Steps
 pub mod Response
+pub mod Inputs

@@ -1,6 +1,7 @@
-//! Requests of a stream, and the texts of responses.
+//! Requests of a stream, what scripts see of them, and the texts of responses.
 #![tactic(auto)]
 
+mod arrays;
 mod fields;
 mod head;
 mod laws;
@@ -8,9 +9,11 @@ mod request;
 mod response;
 mod stream;
 
+pub use arrays::inputs;
 pub use laws::{answers_grow, head_law, stays_first, takes_some};
 pub use request::{Method, Request, Step};
 pub use resin_bytes::{Header, HeaderList};
+pub use resin_inputs::InputArrays;
 pub use response::response_text;
 pub use stream::next_request;
 

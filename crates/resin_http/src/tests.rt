@@ -1,6 +1,7 @@
 //! Heads with their answers from RFC 9112 and `httparse`'s documentation, and worked responses.
 use super::*;
 use resin_bytes::Bytes;
+use resin_value::{Key, Value};
 use std::alloc::{AllocError, Global};
 use std::test::Fail;
 
@@ -204,6 +205,30 @@ fn requests_have_their_parts(rt: HostRuntime) -> Result<(), Fail> {
         }
         _ => assert!(rt; false, "a request"),
     }
+    Ok(())
+}
+
+#[test]
+fn inputs_are_those_of_the_request(rt: HostRuntime) -> Result<(), Fail> {
+    let stream =
+        b"POST /a?x.y=1&b[]=2 HTTP/1.1\r\nCookie: c=3\r\nContent-Type: application/x-www-form-urlencoded\r\nContent-Length: 3\r\n\r\nd=4";
+    let Step::Got { request, .. } = next_request(rt.alloc(), stream)? else {
+        assert!(rt; false, "a request");
+        return Ok(());
+    };
+    let arrays = inputs(rt.alloc(), &request)?;
+    assert_eq!(rt; arrays.get.len(), 2);
+    match arrays.get.get(&Key::from_text(rt.alloc(), b"x_y")?) {
+        Some(Value::Text(text)) => assert_eq!(rt; text.bytes(), b"1".as_slice()),
+        _ => assert!(rt; false, "a text"),
+    }
+    match arrays.get.get(&Key::from_text(rt.alloc(), b"b")?) {
+        Some(Value::Arr(array)) => assert_eq!(rt; array.len(), 1),
+        _ => assert!(rt; false, "an array"),
+    }
+    assert_eq!(rt; arrays.post.len(), 1);
+    assert_eq!(rt; arrays.cookie.len(), 1);
+    assert_eq!(rt; arrays.server.len(), 3);
     Ok(())
 }
 

@@ -1,0 +1,4 @@
+pub mod CutLemmas
+pub mod PutLemmas
+pub mod CookieLemmas
+pub mod EntryLemmas

@@ -1,0 +1,4 @@
+pub mod Names
+pub mod Forms
+pub mod Cookies
+pub mod Inputs
