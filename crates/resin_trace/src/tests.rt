@@ -1,5 +1,6 @@
 //! Traces and connections with answers worked out from the format of traces.
 use crate::{Connections, TraceEvent, TraceFault, TraceReader};
+use std::alloc::{AllocError, Global};
 use std::process::Abort;
 use std::test::Fail;
 
@@ -106,6 +107,78 @@ fn reads_a_large_piece_byte_by_byte(rt: HostRuntime) -> Result<(), Fail> {
         _ => assert!(rt; false),
     }
     assert_eq!(rt; reader.finish(), Ok(()));
+    Ok(())
+}
+
+// A trace of so many records, of growing length.
+fn growing(alloc: Global, records: usize) -> Result<Vec<u8>, AllocError> {
+    let mut trace = Vec::new(alloc);
+    for length in 0..records {
+        trace.extend_from_slice(format!(in alloc; "7 {length}\n")?.as_bytes())?;
+        for _ in 0..length {
+            trace.push(b'a')?;
+        }
+        trace.push(b'\n')?;
+    }
+    Ok(trace)
+}
+
+// Feeds one byte, and counts the bytes that moved: all that were held where their memory grew.
+fn feed_one(reader: &mut TraceReader, byte: u8) -> Result<usize, TraceFault> {
+    let held = reader.unread.bytes.len();
+    let room = reader.unread.bytes.capacity();
+    reader.feed(&[byte])?;
+    Ok(if reader.unread.bytes.capacity() == room {
+        0
+    } else {
+        held
+    })
+}
+
+// Hands out a record, and counts the bytes that moved: those that still wait, where they came to the front. None where no record stands.
+fn take_one(reader: &mut TraceReader) -> Result<Option<usize>, TraceFault> {
+    let event = reader.next()?;
+    let moved = if reader.unread.at == 0 {
+        reader.unread.bytes.len()
+    } else {
+        0
+    };
+    Ok(event.map(|_| moved))
+}
+
+// Whether the memory is at most four times what waits, and a little.
+fn is_small(reader: &TraceReader) -> bool {
+    reader.unread.bytes.capacity() / 4 <= reader.unread.as_slice().len().saturating_add(8)
+}
+
+#[test]
+fn moves_few_bytes_and_holds_few(rt: HostRuntime) -> Result<(), Fail> {
+    let trace = growing(rt.alloc(), 400)?;
+    assert_eq!(rt; trace.len(), 82_490);
+
+    // each record is handed out once it stands
+    let mut reader = TraceReader::new(rt.alloc());
+    let mut moved = 0usize;
+    for byte in &trace {
+        moved = moved.saturating_add(feed_one(&mut reader, *byte)?);
+        moved = moved.saturating_add(take_one(&mut reader)?.unwrap_or(0));
+        assert!(rt; is_small(&reader));
+    }
+    assert!(rt; moved <= 2 * 82_490, "{moved}");
+    assert!(rt; reader.unread.as_slice().is_empty());
+
+    // all records are handed out at the end
+    let mut late = TraceReader::new(rt.alloc());
+    let mut moved = 0usize;
+    for byte in &trace {
+        moved = moved.saturating_add(feed_one(&mut late, *byte)?);
+    }
+    for _ in 0..400 {
+        moved = moved.saturating_add(take_one(&mut late)?.unwrap_or(0));
+        assert!(rt; is_small(&late));
+    }
+    assert!(rt; moved <= 3 * 82_490, "{moved}");
+    assert!(rt; late.unread.as_slice().is_empty());
     Ok(())
 }
 

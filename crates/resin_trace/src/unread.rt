@@ -5,13 +5,13 @@ use std::alloc::{AllocError, Global};
 use std::marker::Model;
 
 /// A queue of bytes in one slice. The bytes that were taken stand in front of `at` until they are as many as those
-/// that wait; then the others move over them. So a byte moves at most once for each byte that is taken, and the
-/// memory held by the items is at most twice what waits.
+/// that wait; then the others move over them, and the memory beyond them is given back. So a byte moves at most once
+/// for each byte that is taken, and the items are at most twice as many as wait.
 #[derive(Drop)]
 pub(crate) struct Unread {
     alloc: Global,
-    bytes: Vec<u8>,
-    at: usize,
+    pub(crate) bytes: Vec<u8>,
+    pub(crate) at: usize,
 }
 
 impl Model for Unread {
@@ -91,4 +91,5 @@ fn move_to_front(bytes: &mut Vec<u8>, at: usize)
     let (front, back) = bytes.split_at_mut(at);
     front[..left].copy_from_slice(back);
     bytes.truncate(left);
+    bytes.shrink_to_fit();
 }
