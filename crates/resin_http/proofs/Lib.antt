@@ -3,3 +3,4 @@ pub mod LineLemmas
 pub mod HeadLemmas
 pub mod StreamLemmas
 pub mod MarkLemmas
+pub mod WaitLemmas

@@ -136,7 +136,7 @@ end_decides s end p some within e =
           )
     ] refl e
 
-take-more : (n : ℕ) (s more : List ℕ) → (rest : List ℕ) × (take n (s ++ more) ≡ take n s ++ rest)
+pub take-more : (n : ℕ) (s more : List ℕ) → (rest : List ℕ) × (take n (s ++ more) ≡ take n s ++ rest)
 take-more zero s more = ([], refl)
 take-more (suc n) [] more = (take (suc n) more, refl)
 take-more (suc n) (b ∷ s) more = let t = take-more n s more in (t.0, ap (λ w. b ∷ w) t.1)
@@ -401,7 +401,7 @@ pub many_lines : (s : List ℕ) (end : ℕ) → most_lines < line_count (take en
 many_lines s end many =
     ap (λ t. cond t (Some (decided (refuses 431) end)) (on_head end (drop end s) (head_of (take end s)))) (lt-ltb most_lines (line_count (take end s)) many)
 
-few : (m n : ℕ) → n ≤ m → nat_lt m n ≡ false
+pub few : (m n : ℕ) → n ≤ m → nat_lt m n ≡ false
 few m n le = grind arith
 
 few_lines : (s : List ℕ) (end : ℕ) → line_count (take end s) ≤ most_lines → at_end s (Some end) ≡ on_head end (drop end s) (head_of (take end s))
@@ -416,7 +416,7 @@ pub whole_head : (s : List ℕ) (end : ℕ) (h : RequestHead) → line_count (ta
     → at_end s (Some end) ≡ on_parts end (drop end s) h.method h.target (pairs_of h)
 whole_head s end h le is = few_lines s end le ∙ ap (on_head end (drop end s)) (head_complete (take end s) h is)
 
-take_least : (s : List ℕ) (n : ℕ) → take (min (length s) n) s ≡ take n s
+pub take_least : (s : List ℕ) (n : ℕ) → take (min (length s) n) s ≡ take n s
 take_least s n = elim (nat_le (length s) n) as (λ t. nat_le (length s) n ≡ t → take (min (length s) n) s ≡ take n s) [
   | true ↦ λ e. let le : length s ≤ n = nat_le-true (length s) n e in let least : min (length s) n ≡ length s = omega arith in ap (λ k. take k s) least ∙ take_all (length s) s (omega arith) ∙ sym (take_all n s le)
   | false ↦ λ e. let le : n ≤ length s = grind arith in let least : min (length s) n ≡ n = omega arith in ap (λ k. take k s) least

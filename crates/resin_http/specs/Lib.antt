@@ -4,3 +4,4 @@ pub mod Stream
 pub mod Steps
 pub mod Response
 pub mod Inputs
+pub mod Marks

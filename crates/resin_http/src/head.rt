@@ -1,5 +1,5 @@
 //! The head of a request.
-ghost use Rattle.std.specs.Prelude.{◌≡◌, ◌≤◌, length, IfSome, IfNone};
+ghost use Rattle.std.specs.Prelude.{◌≡◌, ◌≤◌, length, take, None, IfSome, IfNone};
 ghost use Rattle.httparse.specs.Grammar.{RequestHead};
 ghost use Rattle.httparse.specs.Spans.{IsRequestAt, IsRequestWithin};
 ghost use Rattle.resin_http.specs.Head.{IsHead};
@@ -8,12 +8,14 @@ ghost use Rattle.resin_http.specs.Stream.{head_end, line_count};
 use httparse::Status;
 use httparse::spans::{HeaderSpan, RequestSpans, parse_request};
 
-/// Where the first CR LF CR LF ends.
-pub fn head_end(bytes: &[u8]) -> Option<usize>
+/// Where the first CR LF CR LF ends. None ends in the bytes that were searched, which are passed over.
+pub fn head_end(bytes: &[u8], searched: usize) -> Option<usize>
+    requires { head_end (take searched bytes.now) ≡ None }
     ensures value { result ≡ head_end bytes.now }
     ensures within { IfSome result (λ end. end ≤ length bytes.now) }
 {
-    for i in 0..bytes.len() {
+    let start = searched.saturating_sub(3);
+    for i in start..bytes.len() {
         if bytes[i..].starts_with(b"\r\n\r\n") {
             return Some(i + 4);
         }

@@ -1,5 +1,6 @@
 //! Laws of the requests of a stream, each on a function that does nothing.
 ghost use Rattle.resin_http.specs.Head.{HeadLaw};
+ghost use Rattle.resin_http.specs.Marks.{MarkStays};
 ghost use Rattle.resin_http.specs.Stream.{StaysFirst, TakesSome, AnswersGrow};
 
 /// The heads that a stream takes are exactly those of the grammar.
@@ -20,4 +21,9 @@ pub fn takes_some()
 /// The answers of a front of a stream are the first answers of the stream, so they do not depend on how it is cut into pieces.
 pub fn answers_grow()
     ensures { AnswersGrow }
+{}
+
+/// What a mark says of a stream stays true when more bytes come.
+pub fn mark_stays()
+    ensures { MarkStays }
 {}

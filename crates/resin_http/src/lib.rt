@@ -5,17 +5,19 @@ mod arrays;
 mod fields;
 mod head;
 mod laws;
+mod marks;
 mod request;
 mod response;
 mod stream;
 
 pub use arrays::inputs;
-pub use laws::{answers_grow, head_law, stays_first, takes_some};
+pub use laws::{answers_grow, head_law, mark_stays, stays_first, takes_some};
+pub use marks::Mark;
 pub use request::{Method, Request, Step};
 pub use resin_bytes::{Header, HeaderList};
 pub use resin_inputs::InputArrays;
 pub use response::response_text;
-pub use stream::next_request;
+pub use stream::{next_marked, next_request};
 
 #[cfg(test)]
 mod tests;

@@ -152,6 +152,20 @@ fn heads_are_answered(rt: HostRuntime) -> Result<(), Fail> {
 }
 
 #[test]
+fn marks_are_kept(rt: HostRuntime) -> Result<(), Fail> {
+    let mut mark = Mark::START;
+    let step = next_marked(rt.alloc(), b"GET / HTTP/1.1\r\n\r", &mut mark)?;
+    assert!(rt; matches!(step, Step::Need));
+    assert_eq!(rt; mark, Mark::Head { searched: 17 });
+    let mut mark = Mark::START;
+    let stream = b"POST / HTTP/1.1\r\nContent-Length: 2\r\n\r\nh";
+    let step = next_marked(rt.alloc(), stream, &mut mark)?;
+    assert!(rt; matches!(step, Step::Need));
+    assert_eq!(rt; mark, Mark::Body { end: 38, body: 2 });
+    Ok(())
+}
+
+#[test]
 fn limits_are_kept(rt: HostRuntime) -> Result<(), Fail> {
     // 63 fields and the last, one more, and one more with lines that end with LF alone
     assert_eq!(rt;
