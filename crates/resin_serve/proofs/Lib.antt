@@ -12,3 +12,5 @@ pub mod Serve_runs
 pub mod Wording
 pub mod Completing
 pub mod Cuttings
+pub mod Lives
+pub mod Marking

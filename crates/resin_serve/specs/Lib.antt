@@ -11,3 +11,4 @@ pub mod Headline
 pub mod Codes
 pub mod Asked
 pub mod Cutting
+pub mod Waiting_streams

@@ -7,9 +7,10 @@ mod output;
 mod run;
 mod status;
 mod top;
+mod waiting;
 mod words;
 
-pub use laws::{any_cutting, asked_tells};
+pub use laws::{any_cutting, asked_tells, lives_tell, same_lives};
 pub use status::{Ended, Status};
 pub use top::serve;
 

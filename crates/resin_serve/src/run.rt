@@ -15,10 +15,11 @@ ghost use Rattle.resin_serve.specs.Top.{OnWhole, RanLine, RanEvent, Beyond, Went
 
 use crate::give::{Given, give_three};
 use crate::output::output_record;
+use crate::waiting::WaitingStreams;
 use resin_base::{Calls, Files, Sink, Tables};
-use resin_http::{Request, Step, next_request};
+use resin_http::{Request, Step};
 use resin_site::{End, Site, refusal, serve_one};
-use resin_trace::{Connections, TraceEvent, TraceFault, TraceReader};
+use resin_trace::{TraceEvent, TraceFault, TraceReader};
 use std::alloc::Global;
 
 /// What a run has at hand: the site, the keeper calls so far, the number of the next answer, and the streams of the connections.
@@ -28,7 +29,7 @@ pub(crate) struct Run {
     pub(crate) site: Site,
     pub(crate) calls: Calls,
     pub(crate) number: u64,
-    pub(crate) connections: Connections,
+    pub(crate) connections: WaitingStreams,
 }
 
 /// Gives an answer: its mail records, and the record of its response.
@@ -166,7 +167,7 @@ pub(crate) fn serve_connection<F: Files, T: Tables, L: Sink, M: Sink, O: Sink>(
     ensures line { OnWhole result (RanLine (at run.old.connections conn) (at run.new.connections conn) run.old.number run.new.number) }
 {
     'answers: loop {
-        match next_request(run.alloc, run.connections.stream(conn)) {
+        match run.connections.next_request(run.alloc, conn) {
             Ok(Step::Need) => return Given::Whole,
             Ok(Step::Got { request, used }) => {
                 run.connections.used(conn, used as usize);

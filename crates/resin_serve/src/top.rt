@@ -17,10 +17,11 @@ ghost use Rattle.resin_serve.specs.declared.status.Status.TheVariants.{Usage};
 
 use crate::run::{Ready, Run, serve_ready};
 use crate::status::{Ended, Status};
+use crate::waiting::WaitingStreams;
 use crate::words::fuel_of;
 use resin_base::{Calls, FailList, Files, Sink, Source, Tables};
 use resin_site::Site;
-use resin_trace::{Connections, TraceFault, TraceReader};
+use resin_trace::{TraceFault, TraceReader};
 use std::alloc::{AllocError, Global};
 
 /// Serves a recorded trace over the keepers of files and of tables.
@@ -95,7 +96,7 @@ pub fn serve<S: Source, O: Sink, L: Sink, M: Sink, F: Files, T: Tables>(
         site,
         calls,
         number: 1,
-        connections: Connections::new(alloc),
+        connections: WaitingStreams::new(alloc),
     };
     let status = serve_trace(&mut run, trace, log, mail, out, files, tables);
     Ended {

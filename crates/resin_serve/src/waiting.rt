@@ -1,0 +1,214 @@
+//! The streams of connections, with how far each was read.
+ghost use Rattle.std.specs.Prelude.{◌≡◌, ◌≢◌, ◌≤◌, ◌<◌, ◌⊎◌, ℕ, [], length, OnOk, OnErr, IfOk, Some, None, IsSome, true};
+ghost use Rattle.resin_http.specs.Stream.{first};
+ghost use Rattle.resin_http.specs.Steps.{Steps, Fits};
+ghost use Rattle.resin_trace.specs.Lines.{at, stream_of, added, used};
+ghost use Rattle.resin_serve.specs.Waiting_streams.{mark_at, start};
+
+use resin_http::{Mark, Step, next_marked};
+use resin_trace::Connections;
+use std::alloc::{AllocError, Global};
+use std::marker::Model;
+
+/// The streams of connections by their numbers. A mark is kept for each, so that no byte of a stream that waits is read again and again.
+#[derive(Drop)]
+pub(crate) struct WaitingStreams {
+    connections: Connections,
+    marks: Vec<Mark>,
+}
+
+impl Model for WaitingStreams {
+    ghost use Rattle.std.specs.Prelude.{List, Option};
+    ghost use Rattle.resin_trace.specs.Lines.{Waiting};
+    ghost use Rattle.resin_serve.specs.Waiting_streams.{AreMarks};
+
+    ghost Value = { List (Option Waiting) };
+
+    ghost view = { λ s. s.connections };
+
+    ghost invariant = { λ s. AreMarks s.connections s.marks.items };
+}
+
+impl WaitingStreams {
+    /// No connections. It takes no memory.
+    pub(crate) fn new(alloc: Global) -> WaitingStreams
+        ensures { (c : ℕ) → at result c ≡ None }
+    {
+        WaitingStreams {
+            connections: Connections::new(alloc),
+            marks: Vec::new(alloc),
+        }
+    }
+
+    /// Puts bytes last on a connection; a refused one drops them. After want of memory every connection is as before.
+    pub(crate) fn add(&mut self, conn: u16, bytes: &[u8]) -> Result<(), AllocError>
+        ensures ok { OnOk result (at self.new conn ≡ Some (added (at self.old conn) bytes.now)) }
+        ensures err { OnErr result (at self.new conn ≡ at self.old conn) }
+        ensures others { (c : ℕ) → c ≢ conn → at self.new c ≡ at self.old c }
+    {
+        make_room(&mut self.marks, usize::from(conn))?;
+        self.connections.add(conn, bytes)
+    }
+
+    /// What the front of a connection's stream asks.
+    pub(crate) fn next_request(&mut self, alloc: Global, conn: u16) -> Result<Step, AllocError>
+        ensures same { self.new ≡ self.old }
+        ensures steps { IfOk result (λ s. Steps (first (stream_of (at self.old conn))) s) }
+        ensures fits { IfOk result (λ s. Fits (stream_of (at self.old conn)) s) }
+    {
+        let mut mark = mark_of(&self.marks, usize::from(conn));
+        let step = next_marked(alloc, self.connections.stream(conn), &mut mark)?;
+        set_mark(&mut self.marks, usize::from(conn), mark);
+        Ok(step)
+    }
+
+    /// Takes a request's bytes from the front of a connection's stream.
+    pub(crate) fn used(&mut self, conn: u16, n: usize)
+        requires { n ≤ length (stream_of (at self.old conn)) }
+        ensures here { at self.new conn ≡ used n (at self.old conn) }
+        ensures others { (c : ℕ) → c ≢ conn → at self.new c ≡ at self.old c }
+    {
+        set_mark(&mut self.marks, usize::from(conn), Mark::START);
+        self.connections.used(conn, n);
+    }
+
+    /// Drops a connection's bytes, and those that come until its end. Something must have come on it.
+    pub(crate) fn refuse(&mut self, conn: u16)
+        requires { IsSome (at self.old conn) }
+        ensures here { at self.new conn ≡ Some (record { stream = []; refused = true }) }
+        ensures others { (c : ℕ) → c ≢ conn → at self.new c ≡ at self.old c }
+    {
+        set_mark(&mut self.marks, usize::from(conn), Mark::START);
+        self.connections.refuse(conn);
+    }
+
+    /// Ends a connection: its bytes are dropped, and its number may be used anew.
+    pub(crate) fn end(&mut self, conn: u16)
+        ensures here { at self.new conn ≡ None }
+        ensures others { (c : ℕ) → c ≢ conn → at self.new c ≡ at self.old c }
+    {
+        set_mark(&mut self.marks, usize::from(conn), Mark::START);
+        self.connections.end(conn);
+    }
+}
+
+// Makes places for marks up to one, of whose connections nothing is known.
+fn make_room(marks: &mut Vec<Mark>, place: usize) -> Result<(), AllocError>
+    ensures { (c : ℕ) → mark_at marks.new.items c ≡ mark_at marks.old.items c }
+{
+    while marks.len() <= place {
+        marks.push(Mark::START)?;
+    }
+    Ok(())
+}
+
+// The mark at a place.
+fn mark_of(marks: &[Mark], place: usize) -> Mark
+    ensures { result ≡ mark_at marks.now place }
+{
+    marks.get(place).copied().unwrap_or(Mark::START)
+}
+
+// Keeps a mark where there is a place for it.
+fn set_mark(marks: &mut Vec<Mark>, place: usize, mark: Mark)
+    ensures here { (mark_at marks.new.items place ≡ mark) ⊎ (mark_at marks.new.items place ≡ start) }
+    ensures others { (c : ℕ) → c ≢ place → mark_at marks.new.items c ≡ mark_at marks.old.items c }
+{
+    if place < marks.len() {
+        marks[place] = mark;
+    }
+}
+
+#[cfg(test)]
+mod tests {
+    use super::*;
+    use std::test::Fail;
+
+    // How many bytes a call looks at, by the mark: those from three before it on, none while a body is awaited, and all once it is whole.
+    fn looked_at(mark: Mark, length: usize) -> usize {
+        match mark {
+            Mark::Head { searched } => length.saturating_sub(searched.saturating_sub(3)),
+            Mark::Body { end, body } if length.saturating_sub(end) as u64 >= body => length,
+            Mark::Body { .. } => 0,
+        }
+    }
+
+    // Puts one more piece, and asks. The answer is 0 for more bytes, 200 for a request, else the status of a refusal; and how many bytes
+    // were looked at.
+    fn put(
+        alloc: Global,
+        streams: &mut WaitingStreams,
+        piece: &[u8],
+    ) -> Result<(u16, usize), AllocError> {
+        streams.add(1, piece)?;
+        let looked = looked_at(
+            mark_of(&streams.marks, 1),
+            streams.connections.stream(1).len(),
+        );
+        let status = match streams.next_request(alloc, 1)? {
+            Step::Need => 0,
+            Step::Got { .. } => 200,
+            Step::Refuse { status } => status,
+        };
+        Ok((status, looked))
+    }
+
+    // A head whose one field has so many bytes, and announces a body of so many where there is one.
+    fn head(alloc: Global, value: usize, body: usize) -> Result<Vec<u8>, AllocError> {
+        let mut head = Vec::from_slice(alloc, b"POST /a HTTP/1.1\r\n")?;
+        head.extend_from_slice(format!(in alloc; "Content-Length: {body}\r\nA: ")?.as_bytes())?;
+        for _ in 0..value {
+            head.push(b'a')?;
+        }
+        head.extend_from_slice(b"\r\n\r\n")?;
+        Ok(head)
+    }
+
+    // Puts the bytes one by one. The last answer, and how many bytes were looked at.
+    fn put_singly(
+        alloc: Global,
+        streams: &mut WaitingStreams,
+        bytes: &[u8],
+    ) -> Result<(u16, usize), AllocError> {
+        let mut last = 0;
+        let mut looked = 0usize;
+        for byte in bytes {
+            let (status, more) = put(alloc, streams, &[*byte])?;
+            last = status;
+            looked = looked.saturating_add(more);
+        }
+        Ok((last, looked))
+    }
+
+    #[test]
+    fn looks_at_few_bytes(rt: HostRuntime) -> Result<(), Fail> {
+        let alloc = rt.alloc();
+
+        // a head of 16,000 bytes and more, byte by byte
+        let text = head(alloc, 16_000, 0)?;
+        let mut streams = WaitingStreams::new(alloc);
+        let (status, looked) = put_singly(alloc, &mut streams, &text)?;
+        assert_eq!(rt; status, 200);
+        assert!(rt; looked / 4 <= text.len(), "{looked}");
+
+        // a body of 1,000,000 bytes after such a head, byte by byte
+        let text = head(alloc, 16_000, 1_000_000)?;
+        let mut streams = WaitingStreams::new(alloc);
+        let mut looked = put_singly(alloc, &mut streams, &text)?.1;
+        let body = vec![in alloc; b'b'; 1_000_000]?;
+        let (status, more) = put_singly(alloc, &mut streams, &body)?;
+        looked = looked.saturating_add(more);
+        assert_eq!(rt; status, 200);
+        assert!(rt;
+            looked / 4 <= text.len().saturating_add(1_000_000),
+            "{looked}"
+        );
+
+        // no head in 16,384 bytes
+        let mut streams = WaitingStreams::new(alloc);
+        let (status, looked) = put_singly(alloc, &mut streams, &body[..16_384])?;
+        assert_eq!(rt; status, 431);
+        assert!(rt; looked <= 4 * 16_384, "{looked}");
+        Ok(())
+    }
+}
