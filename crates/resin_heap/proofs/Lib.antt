@@ -1,0 +1,7 @@
+pub mod Seats
+pub mod Lines
+pub mod Kept_tables
+pub mod Method_places
+pub mod Prelude_fits
+pub mod Field_places
+pub mod LawLemmas

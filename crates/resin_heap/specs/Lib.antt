@@ -1,0 +1,9 @@
+pub mod Names
+pub mod Kept
+pub mod Classes
+pub mod Codes
+pub mod Places
+pub mod Prelude
+pub mod Tables
+pub mod Objects
+pub mod Laws

@@ -1,0 +1,280 @@
+//! Classes, by their numbers.
+ghost use Rattle.std.specs.Prelude.{◌≡◌, ◌+◌, ◌<◌, ◌++◌, ◌∷◌, [], ◌↔◌, Some, None, Err, IfOk, IfErr, IfSome, IsSome, IsTrue, OnOk, OnErr, length, reverse, slice_get};
+ghost use Rattle.resin_heap.specs.Classes.{class_names, find_class, parent_in, parent_of, is_a, line, method_of, function_at, NamesNoParent};
+ghost use Rattle.std.specs.Option.{option_map};
+ghost use Rattle.resin_heap.specs.Prelude.{prelude, StartsWithPrelude, number_of, name_of, parent_class, declaration_of};
+ghost use Rattle.resin_heap.specs.Tables.{declared, with_class, IsKept};
+
+use crate::class::{Class, MOST_METHODS};
+use crate::names::{CaselessName, place_of};
+use crate::prelude::{PRELUDE_LEN, PreludeClass};
+use indexmap::IndexMap;
+use resin_tree::{ClassDecl, Function};
+use std::alloc::{AllocError, Global};
+use std::marker::Model;
+
+/// The most classes that a request may have.
+pub const MOST_CLASSES: u32 = u32::MAX;
+
+/// Why a class is not declared.
+#[derive(Clone, Copy, Debug, Eq, PartialEq)]
+pub enum ClassFault {
+    /// A class of that name is there already.
+    Redeclared,
+    /// The parent isn't there.
+    NoParent,
+    /// Memory ran out.
+    Memory,
+}
+
+impl From<AllocError> for ClassFault {
+    ghost use Rattle.resin_heap.specs.declared.classes.ClassFault.{ClassFault};
+
+    ghost from_gives = { λ _ fault. fault ≡ ClassFault.Memory };
+
+    fn from(_error: AllocError) -> ClassFault {
+        ClassFault::Memory
+    }
+}
+
+/// Where a method stands: the number of the class that declares it, and its place in that declaration, from 0.
+#[derive(Clone, Copy, Debug, Eq, PartialEq)]
+pub struct MethodAt {
+    pub class: u32,
+    pub index: u32,
+}
+
+/// The classes of a request, numbered from 0 in the order of their declarations, those of the runtime first. Contracts see the list of the
+/// declarations. Names ignore ASCII case.
+#[derive(Drop)]
+pub struct Classes {
+    table: IndexMap<CaselessName<'static>, Class>,
+    alloc: Global,
+}
+
+impl Model for Classes {
+    ghost use Rattle.resin_heap.specs.Classes.{Table};
+    ghost use Rattle.resin_heap.specs.Codes.{table_code};
+
+    ghost Value = { Table };
+
+    ghost coded = { table_code };
+
+    ghost use Rattle.resin_heap.specs.Tables.{declared, IsTable};
+
+    ghost view = { λ c. declared c.table.entries };
+
+    ghost invariant = { λ c. IsTable c.table.entries };
+}
+
+impl Classes {
+    /// The classes of the runtime alone.
+    pub fn new(alloc: Global) -> Result<Classes, AllocError>
+        ensures { IfOk result (λ classes. classes ≡ prelude) }
+    {
+        let mut table = IndexMap::new(alloc);
+        for number in 0..PRELUDE_LEN {
+            let class = PreludeClass::numbered(number).unwrap();
+            add_prelude(alloc, &mut table, class)?;
+        }
+        Ok(Classes { table, alloc })
+    }
+
+    /// How many classes there are. Those of the runtime are always the first.
+    pub fn len(&self) -> u32
+        ensures value { result ≡ length self.now }
+        ensures begins { StartsWithPrelude self.now }
+    {
+        self.table.len() as u32
+    }
+
+    /// The number of the class of a name, in any case of its ASCII letters; `None` exactly where there is none.
+    pub fn find(&self, name: &[u8]) -> Option<u32>
+        ensures value { result ≡ find_class self.now name.now }
+        ensures within { IfSome result (λ c. c < length self.now) }
+    {
+        match place_of(&self.table, &CaselessName::lent(name)) {
+            Some(i) => Some(i as u32),
+            None => None,
+        }
+    }
+
+    /// Declares a class, and answers its number. `Redeclared` comes exactly where a class of its name is there, `NoParent` exactly where none is and
+    /// the parent that it names isn't there. After any refusal nothing is changed.
+    pub fn declare(&mut self, c: &ClassDecl) -> Result<u32, ClassFault>
+        requires few_classes { length self.old < MOST_CLASSES }
+        requires few_methods { length c.now.methods < MOST_METHODS }
+        ensures number { IfOk result (λ n. n ≡ length self.old) }
+        ensures declared { OnOk result (self.new ≡ self.old ++ c.now ∷ []) }
+        ensures redeclared { (result ≡ Err ClassFault.Redeclared) ↔ IsSome (find_class self.old c.now.name) }
+        ensures no_parent { (result ≡ Err ClassFault.NoParent) ↔ ((find_class self.old c.now.name ≡ None) × NamesNoParent self.old c.now) }
+        ensures err { OnErr result (self.new ≡ self.old) }
+    {
+        if self.find(c.name.as_slice()).is_some() {
+            return Err(ClassFault::Redeclared);
+        }
+        let parent = self.parent_for(c)?;
+        let number = self.len();
+        self.append(c, parent)?;
+        Ok(number)
+    }
+
+    // The number of the class that a declaration names as its parent.
+    fn parent_for(&self, c: &ClassDecl) -> Result<Option<u32>, ClassFault>
+        ensures ok { IfOk result (λ parent. (parent ≡ parent_in self.now c.now) × ¬ (NamesNoParent self.now c.now)) }
+        ensures err { IfErr result (λ fault. (fault ≡ ClassFault.NoParent) × NamesNoParent self.now c.now) }
+    {
+        let Some(name) = &c.parent else {
+            return Ok(None);
+        };
+        match self.find(name.as_slice()) {
+            Some(parent) => Ok(Some(parent)),
+            None => Err(ClassFault::NoParent),
+        }
+    }
+
+    // Puts a class last whose name is new and whose parent is known.
+    fn append(&mut self, c: &ClassDecl, parent: Option<u32>) -> Result<(), AllocError>
+        requires few_classes { length self.old < MOST_CLASSES }
+        requires few_methods { length c.now.methods < MOST_METHODS }
+        requires fresh { find_class self.old c.now.name ≡ None }
+        requires under { parent ≡ parent_in self.old c.now }
+        ensures ok { OnOk result (self.new ≡ self.old ++ c.now ∷ []) }
+        ensures err { OnErr result (self.new ≡ self.old) }
+    {
+        add(self.alloc, &mut self.table, c, parent)
+    }
+
+    // A class with what was found out about it.
+    fn class(&self, c: u32) -> &Class
+        requires { c < length self.now }
+        ensures declared { slice_get self.now c ≡ Some result.now.0 }
+        ensures under { result.now.1 ≡ parent_of self.now c }
+    {
+        let (_, class) = self.table.get_index(c as usize).unwrap();
+        class
+    }
+
+    /// The declaration of a class, as it was declared.
+    pub fn declaration(&self, c: u32) -> &ClassDecl
+        requires { c < length self.now }
+        ensures { slice_get self.now c ≡ Some result.now }
+    {
+        self.class(c).declaration()
+    }
+
+    /// The name of a class, as it is written in its declaration.
+    pub fn class_name(&self, c: u32) -> &[u8]
+        requires { c < length self.now }
+        ensures { slice_get (class_names self.now) c ≡ Some result.now }
+    {
+        self.declaration(c).name.as_slice()
+    }
+
+    /// The number of the parent of a class, `None` exactly where it has none. It is smaller than the class's own.
+    pub fn parent(&self, c: u32) -> Option<u32>
+        requires { c < length self.now }
+        ensures value { result ≡ parent_of self.now c }
+        ensures smaller { IfSome result (λ parent. parent < c) }
+    {
+        self.class(c).parent()
+    }
+
+    /// Whether a class is another one, or stands under it at any depth.
+    pub fn is_a(&self, c: u32, other: u32) -> bool
+        requires { c < length self.now }
+        ensures { result ≡ is_a self.now c other }
+    {
+        let mut at = c;
+        while at != other {
+            match self.parent(at) {
+                Some(above) => at = above,
+                None => return false,
+            }
+        }
+        true
+    }
+
+    /// The method that a call by this name on an object of a class reaches, in any case of its ASCII letters: the class's own, else that of the
+    /// nearest class above it that has one; `None` exactly where there is none.
+    pub fn method(&self, c: u32, name: &[u8]) -> Option<MethodAt>
+        requires { c < length self.now }
+        ensures value { result ≡ method_of self.now c name.now }
+        ensures there { IfSome result (λ at. IsSome (function_at self.now at)) }
+    {
+        let mut at = c;
+        loop {
+            match self.class(at).method(name) {
+                Some(index) => return Some(MethodAt { class: at, index }),
+                None => at = self.parent(at)?,
+            }
+        }
+    }
+
+    /// The declaration of a method.
+    pub fn function(&self, at: MethodAt) -> &Function
+        requires { IsSome (function_at self.now at) }
+        ensures { function_at self.now at ≡ Some result.now }
+    {
+        let methods = self.declaration(at.class).methods.get();
+        &methods.as_slice()[at.index as usize]
+    }
+
+    /// A class and those above it, from the topmost on: the order in which an object of the class is given its properties.
+    pub fn ancestry(&self, alloc: Global, c: u32) -> Result<Vec<u32>, AllocError>
+        requires { c < length self.now }
+        ensures { IfOk result (λ numbers. numbers.items ≡ reverse (line self.now c)) }
+    {
+        let mut numbers = Vec::new(alloc);
+        let mut next = Some(c);
+        while let Some(at) = next {
+            numbers.push(at)?;
+            next = self.parent(at);
+        }
+        numbers.reverse();
+        Ok(numbers)
+    }
+}
+
+// Puts a class last whose name is new.
+fn add(
+    alloc: Global,
+    table: &mut IndexMap<CaselessName<'static>, Class>,
+    c: &ClassDecl,
+    parent: Option<u32>,
+) -> Result<(), AllocError>
+    requires few_methods { length c.now.methods < MOST_METHODS }
+    requires fresh { find_class (declared table.old.entries) c.now.name ≡ None }
+    requires kept { IsKept table.old.entries }
+    ensures ok { OnOk result (table.new.entries ≡ with_class table.old.entries c.now parent) }
+    ensures err { OnErr result (table.new.entries ≡ table.old.entries) }
+{
+    let class = Class::new(alloc, c, parent)?;
+    table.insert(CaselessName::kept(c.name.clone()?), class)?;
+    Ok(())
+}
+
+// The number of the parent of a class of the runtime.
+fn parent_number(class: PreludeClass) -> Option<u32>
+    ensures { result ≡ option_map number_of (parent_class class) }
+{
+    match class.parent() {
+        Some(parent) => Some(parent.number()),
+        None => None,
+    }
+}
+
+// Puts a class of the runtime last.
+fn add_prelude(
+    alloc: Global,
+    table: &mut IndexMap<CaselessName<'static>, Class>,
+    class: PreludeClass,
+) -> Result<(), AllocError>
+    requires fresh { find_class (declared table.old.entries) (name_of class) ≡ None }
+    requires kept { IsKept table.old.entries }
+    ensures { OnOk result (table.new.entries
+        ≡ with_class table.old.entries (declaration_of class) (option_map number_of (parent_class class))) }
+{
+    let declaration = class.declaration(alloc)?;
+    add(alloc, table, &declaration, parent_number(class))
+}
