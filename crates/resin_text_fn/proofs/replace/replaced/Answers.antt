@@ -1,0 +1,6 @@
+use Rattle.std.proofs.Common.{length, ap, arith}
+use Rattle.std.proofs.lemmas.List.{length-map}
+use Rattle.resin_text_fn.proofs.replace.replaced.Goals as goal
+
+pub matched_parts-requires-clause-short : goal.matched_parts-requires-clause-short
+matched_parts-requires-clause-short c = omega (arith, ap length c.bytes.ensures, length-map c.args.text.now (λ p. p.0), c.len-2.ensures.value, c.len-2.ensures.short)
