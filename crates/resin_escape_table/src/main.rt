@@ -1,0 +1,240 @@
+//! Prints what the builtins that escape, encode, digest and format texts answer, one call a line: its name and its arguments,
+//! with tabs between them. In a text `\n`, `\r`, `\t`, `\\` and `\xhh` stand for a byte, and `{12}` gives the bytes before it
+//! the policies 1 and 2; the answers are written so too. An argument of `sprintf` is `i:` with an integer or `s:` with a text.
+//! The input and the answers, which another program worked out by the PHP manual, are the table of these builtins' tests.
+#![tactic(auto)]
+
+ghost use Rattle.std.specs.Prelude.{◌<◌, length};
+
+use resin_escape_fn::{
+    addslashes, bin2hex, chr, htmlspecialchars, md5, nl2br, ord, rawurlencode, sha1, sql_quote,
+    text_answer, urlencode,
+};
+use resin_format::{FormatArg, FormatArgs, Kind, argument_kinds, int_places, sprintf};
+use resin_label::PSet;
+use resin_lstr::{Builder, LText, TextFault};
+use resin_scalar::CallStop;
+use std::alloc::{AllocError, Global};
+use std::io;
+
+fn push_byte(out: &mut String, b: u8) -> Result<(), AllocError> {
+    match b {
+        b'\n' => write!(out, "\\n"),
+        b'\r' => write!(out, "\\r"),
+        b'\t' => write!(out, "\\t"),
+        b'\\' => write!(out, "\\\\"),
+        b'{' | b'}' => write!(out, "\\x{b:02x}"),
+        32..=126 => out.push(b as char),
+        _ => write!(out, "\\x{b:02x}"),
+    }
+}
+
+fn push_set(out: &mut String, set: &PSet) -> Result<(), AllocError> {
+    out.push('{')?;
+    for n in set.as_slice() {
+        write!(out, "{n}")?;
+    }
+    out.push('}')
+}
+
+// A text as its runs.
+fn shown(alloc: Global, t: &LText) -> Result<String, AllocError> {
+    let mut out = String::new(alloc);
+    let mut from = 0;
+    for run in t.runs() {
+        let to = run.end as usize;
+        for byte in t.bytes().iter().take(to).skip(from) {
+            push_byte(&mut out, *byte)?;
+        }
+        push_set(&mut out, &run.set)?;
+        from = to;
+    }
+    Ok(out)
+}
+
+fn hexadecimal(b: u8) -> u8
+    ensures { result < 16 }
+{
+    match b {
+        b'0'..=b'9' => b - b'0',
+        b'a'..=b'f' => b - b'a' + 10,
+        _ => 0,
+    }
+}
+
+// The byte that an escape stands for, and how many bytes it takes.
+fn escaped(s: &[u8]) -> (u8, usize)
+    requires { 0 < length s.now }
+    ensures { 0 < result.1 }
+{
+    match s {
+        [b'\\', b'x', high, low, ..] => (16 * hexadecimal(*high) + hexadecimal(*low), 4),
+        [b'\\', b'n', ..] => (b'\n', 2),
+        [b'\\', b'r', ..] => (b'\r', 2),
+        [b'\\', b't', ..] => (b'\t', 2),
+        [b'\\', b'\\', ..] => (b'\\', 2),
+        _ => (s[0], 1),
+    }
+}
+
+fn unescaped(alloc: Global, text: &str) -> Result<Vec<u8>, AllocError> {
+    let bytes = text.as_bytes();
+    let mut out = Vec::new(alloc);
+    let mut skip = 0usize;
+    for i in 0..bytes.len() {
+        if skip > 0 {
+            skip -= 1;
+        } else {
+            let (b, taken) = escaped(&bytes[i..]);
+            out.push(b)?;
+            skip = taken - 1;
+        }
+    }
+    Ok(out)
+}
+
+// The set of the digits of a text.
+fn set_in(alloc: Global, digits: &str) -> Result<PSet, AllocError> {
+    let mut set = PSet::empty();
+    for digit in digits.as_bytes() {
+        set = set.with(alloc, u32::from(digit.saturating_sub(b'0')))?;
+    }
+    Ok(set)
+}
+
+fn append_piece(alloc: Global, out: Builder, piece: &str) -> Result<Builder, TextFault> {
+    let (text, digits) = piece.split_once('{').unwrap_or((piece, ""));
+    let bytes = unescaped(alloc, text)?;
+    let set = set_in(alloc, digits)?;
+    out.append_bytes(&bytes, &set)
+}
+
+fn pieces(alloc: Global, field: &str) -> Result<LText, TextFault> {
+    let mut out = Builder::new(alloc);
+    for piece in field.split('}') {
+        out = append_piece(alloc, out, piece)?;
+    }
+    Ok(out.finish()?)
+}
+
+fn text_in(alloc: Global, field: &str) -> Result<LText, CallStop> {
+    text_answer(pieces(alloc, field))
+}
+
+// An integer and the set behind it.
+fn integer_in(alloc: Global, field: &str) -> Result<(i64, PSet), CallStop> {
+    let (number, rest) = field.split_once('{').unwrap_or((field, ""));
+    let digits = rest.strip_suffix('}').unwrap_or(rest);
+    let set = set_in(alloc, digits)?;
+    Ok((number.parse::<i64>().unwrap_or(0), set))
+}
+
+fn argument_in(alloc: Global, field: &str) -> Result<FormatArg, CallStop> {
+    match field.split_once(':') {
+        Some(("i", number)) => {
+            let (n, set) = integer_in(alloc, number)?;
+            Ok(FormatArg::Int(n, set))
+        }
+        Some((_, text)) => Ok(FormatArg::Text(text_in(alloc, text)?)),
+        None => Ok(FormatArg::Text(text_in(alloc, field)?)),
+    }
+}
+
+fn formatted(alloc: Global, line: &str) -> Result<LText, CallStop> {
+    let mut fields = line.split('\t');
+    let format = text_in(alloc, fields.next().unwrap_or(""))?;
+    let mut args = FormatArgs::new(alloc);
+    for field in fields {
+        args.push(argument_in(alloc, field)?)?;
+    }
+    sprintf(alloc, &format, &args)
+}
+
+fn letter(kind: Kind) -> char {
+    match kind {
+        Kind::Text => 's',
+        Kind::Decimal => 'd',
+        Kind::Hexadecimal => 'x',
+    }
+}
+
+// How a format reads its arguments, and whether the first four are read as integers.
+fn places(alloc: Global, format: &LText) -> Result<String, CallStop> {
+    let mut out = String::new(alloc);
+    for kind in argument_kinds(alloc, format)?.as_slice() {
+        out.push(letter(*kind))?;
+    }
+    out.push(' ')?;
+    for i in 0..4usize {
+        out.push(if int_places(format, i) { '1' } else { '0' })?;
+    }
+    Ok(out)
+}
+
+// A call that takes one text and gives one.
+fn text_call(alloc: Global, name: &str, s: &LText) -> Result<LText, CallStop> {
+    match name {
+        "htmlspecialchars" => htmlspecialchars(alloc, s),
+        "addslashes" => addslashes(alloc, s),
+        "sql_quote" => sql_quote(alloc, s),
+        "urlencode" => urlencode(alloc, s),
+        "rawurlencode" => rawurlencode(alloc, s),
+        "nl2br" => nl2br(alloc, s),
+        _ => bin2hex(alloc, s),
+    }
+}
+
+// A digest of a text, with the set of the digits behind the tab.
+fn digest_call(alloc: Global, name: &str, rest: &str) -> Result<LText, CallStop> {
+    let (field, digits) = rest.split_once('\t').unwrap_or((rest, ""));
+    let text = text_in(alloc, field)?;
+    let set = set_in(alloc, digits)?;
+    if name == "md5" {
+        md5(alloc, &text, &set)
+    } else {
+        sha1(alloc, &text, &set)
+    }
+}
+
+fn chr_call(alloc: Global, rest: &str) -> Result<LText, CallStop> {
+    let (n, set) = integer_in(alloc, rest)?;
+    chr(alloc, n, &set)
+}
+
+fn ord_call(alloc: Global, rest: &str) -> Result<String, CallStop> {
+    let (n, set) = ord(&text_in(alloc, rest)?)?;
+    let mut out = format!(in alloc; "{n}")?;
+    push_set(&mut out, &set)?;
+    Ok(out)
+}
+
+fn called(alloc: Global, line: &str) -> Result<String, CallStop> {
+    let (name, rest) = line.split_once('\t').unwrap_or((line, ""));
+    let text = match name {
+        "ord" => return ord_call(alloc, rest),
+        "places" => return places(alloc, &text_in(alloc, rest)?),
+        "sprintf" => formatted(alloc, rest)?,
+        "chr" => chr_call(alloc, rest)?,
+        "md5" | "sha1" => digest_call(alloc, name, rest)?,
+        _ => text_call(alloc, name, &text_in(alloc, rest)?)?,
+    };
+    Ok(shown(alloc, &text)?)
+}
+
+fn answer(alloc: Global, line: &str) -> Result<String, AllocError> {
+    match called(alloc, line) {
+        Ok(text) => Ok(text),
+        Err(CallStop::Throw(kind)) => format!(in alloc; "throw {}", kind.class_name()),
+        Err(CallStop::Fault(fault)) => format!(in alloc; "fault {fault}"),
+        Err(CallStop::Memory) => Err(AllocError),
+    }
+}
+
+fn main(rt: HostRuntime) -> io::Result<()> {
+    for line in rt.lines(rt.alloc()) {
+        let line = line?;
+        let text = answer(rt.alloc(), line.as_str())?;
+        rt.println(text)?;
+    }
+    Ok(())
+}

@@ -1,0 +1,5 @@
+pub mod Forms
+pub mod Directives
+pub mod Arguments
+pub mod Formats
+pub mod Found
