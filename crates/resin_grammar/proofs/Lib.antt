@@ -1,0 +1,2 @@
+pub mod HeightLaws
+pub mod PlaceLaws

@@ -1,0 +1,6 @@
+use Rattle.std.proofs.Common.{arith}
+use Rattle.resin_grammar.proofs.HeightLaws.{height_post_decrement}
+use Rattle.resin_grammar.proofs.place.post_decrement.Goals as goal
+
+pub boxed-requires : goal.boxed-requires
+boxed-requires c = rw c.into_target.ensures (omega (arith, height_post_decrement c.args.place, c.above-high.ensures, c.height.ensures))

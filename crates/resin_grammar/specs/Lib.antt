@@ -1,0 +1,9 @@
+pub mod Signs
+pub mod Operators
+pub mod Layers
+pub mod Heights
+pub mod Trees
+pub mod Places
+pub mod Names
+pub mod Expressions
+pub mod Reading
