@@ -115,7 +115,12 @@ fn unescaped(alloc: Global, line: &[u8]) -> Result<Vec<u8>, AllocError> {
 }
 
 fn decimal_of(digits: &[u8]) -> u32 {
-    digits.iter().fold(0, |n: u32, b| n.wrapping_mul(10).wrapping_add((*b).wrapping_sub(b'0') as u32))
+    digits.iter().fold(
+        0,
+        |n: u32, b| n
+            .wrapping_mul(10)
+            .wrapping_add((*b).wrapping_sub(b'0') as u32),
+    )
 }
 
 /// The text of a line of the long form: its front, its part so many times, its back.
