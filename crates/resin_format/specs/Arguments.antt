@@ -1,5 +1,5 @@
 -- Arguments of a format, and how a conversion writes them.
-use Rattle.std.specs.Prelude.{ℕ, ℤ, ◌-◌, ◌≡◌, ◌&&◌, if◌then◌else◌, List, [], ◌++◌, length, replicate, unsigned_abs, refl}
+use Rattle.std.specs.Prelude.{ℕ, ℤ, ◌-◌, ◌≡◌, ◌&&◌, false, if◌then◌else◌, List, [], ◌++◌, length, replicate, unsigned_abs, refl}
 use Rattle.std.specs.Coded.{Coded, code_by, coded×, coded⊎, coded_ℤ, coded_list}
 use Rattle.std.specs.Fmt.{digits, signed_decimal, decimal, sign_text}
 use Rattle.std.specs.Int.{w64, cast_unsigned, is_negative}
