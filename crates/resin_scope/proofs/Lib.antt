@@ -1,0 +1,4 @@
+pub mod NameLemmas
+pub mod StackLemmas
+pub mod ChainLemmas
+pub mod PageLemmas

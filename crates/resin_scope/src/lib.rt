@@ -1,0 +1,13 @@
+//! What a request holds besides its values: the variables of its calls, the filters of its channels and functions, and the answer under way.
+#![tactic(auto)]
+
+mod chains;
+mod names;
+mod page;
+mod scopes;
+#[cfg(test)]
+mod tests;
+
+pub use chains::Chains;
+pub use page::Page;
+pub use scopes::Scopes;
