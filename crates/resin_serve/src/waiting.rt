@@ -164,6 +164,11 @@ mod tests {
         Ok(head)
     }
 
+    // So many bytes in which no head ends.
+    fn filled(alloc: Global, length: usize) -> Result<Vec<u8>, AllocError> {
+        vec![in alloc; b'b'; length]
+    }
+
     // Puts the bytes one by one. The last answer, and how many bytes were looked at.
     fn put_singly(
         alloc: Global,
@@ -195,7 +200,7 @@ mod tests {
         let text = head(alloc, 16_000, 1_000_000)?;
         let mut streams = WaitingStreams::new(alloc);
         let mut looked = put_singly(alloc, &mut streams, &text)?.1;
-        let body = vec![in alloc; b'b'; 1_000_000]?;
+        let body = filled(alloc, 1_000_000)?;
         let (status, more) = put_singly(alloc, &mut streams, &body)?;
         looked = looked.saturating_add(more);
         assert_eq!(rt; status, 200);
@@ -205,8 +210,9 @@ mod tests {
         );
 
         // no head in 16,384 bytes
+        let endless = filled(alloc, 16_384)?;
         let mut streams = WaitingStreams::new(alloc);
-        let (status, looked) = put_singly(alloc, &mut streams, &body[..16_384])?;
+        let (status, looked) = put_singly(alloc, &mut streams, &endless)?;
         assert_eq!(rt; status, 431);
         assert!(rt; looked <= 4 * 16_384, "{looked}");
         Ok(())
