@@ -1,6 +1,6 @@
 -- Where reading stops is where the longest front ends.
-use Rattle.std.proofs.Common.{◌≡◌, ℕ, zero, suc, ◌+◌, ◌≤◌, Bool, true, false, List, [], ◌∷◌, ◌++◌, inl, inr, length, refl, sym, ◌∙◌, ap, subst, arith, length-append, append_assoc, suc-add, zero-add}
-use Rattle.resin_form.specs.Form.{Own, Weight, Opens, Stands, Form, After}
+use Rattle.std.proofs.Common.{◌≡◌, ℕ, zero, suc, ◌+◌, ◌≤◌, Bool, true, false, List, [], ◌∷◌, ◌++◌, inl, inr, length, refl, sym, ◌∙◌, ap, subst, arith, length-append, append_assoc, suc-add}
+use Rattle.resin_form.specs.Form.{Own, Weight, Opens, Enters, Stands, Form, After}
 use Rattle.resin_form.specs.Reading.{Outcome, Got, Stop, Deep, Reader, left}
 use Rattle.resin_form.specs.Meaning.{allows_at, always, NameSpells, NameBegins, reading, SpellsWithin, BeginsWithin, IsFrontWithin, reading_of, IsFront, IsTree, EndsLongest, IsRead, IsRefused, IsTooDeep}
 use Rattle.resin_form.proofs.Shrinks.{IsEnd, same, end_length, Shrinks, read_shrinks, after_shrinks}
@@ -92,11 +92,23 @@ module _ {Token Name : Type 0} {Value : Name → Type 0} (rules : (n : Name) →
   name_exact allows zero n = record { got = λ ts v rest e. cc; spelled = λ ts v rest s. absurd s; stopped = λ w e. cc; begun = λ w b. absurd b }
   name_exact allows (suc depth) n = exact_after (allows_at allows depth) (reading rules allows depth) (shrinks allows depth) (NameSpells rules allows depth) (NameBegins rules allows depth) (name_exact allows depth) (rules n)
 
+  any_stands : (depth n : ℕ) → allows_at always depth Stands n ≡ true
+  any_stands zero n = refl
+  any_stands (suc zero) n = refl
+  any_stands (suc (suc depth)) n = refl
+
+  any_enters : (depth n : ℕ) → allows_at always (suc depth) Enters n ≡ true
+  any_enters zero n = refl
+  any_enters (suc depth) n = refl
+
   wider_test : (allows : ℕ → Bool) (depth more : ℕ) (w : Weight) (n : ℕ) → allows_at allows depth w n ≡ true → allows_at always (depth + more) w n ≡ true
   wider_test allows zero more Opens n e = (let h : false ≡ true = e in cc)
-  wider_test allows zero zero Stands n e = refl
-  wider_test allows zero (suc more) Stands n e = rw zero-add refl
-  wider_test allows (suc depth) more w n e = rw suc-add refl
+  wider_test allows zero more Enters n e = (let h : false ≡ true = e in cc)
+  wider_test allows zero more Stands n e = any_stands (0 + more) n
+  wider_test allows (suc zero) more Opens n e = (let h : false ≡ true = e in cc)
+  wider_test allows (suc zero) more Enters n e = rw suc-add (any_enters (0 + more) n)
+  wider_test allows (suc zero) more Stands n e = any_stands (1 + more) n
+  wider_test allows (suc (suc depth)) more w n e = rw (suc-add, suc-add) refl
 
   name_grows : (allows : ℕ → Bool) (depth more : ℕ) (n : Name) (ts : List Token) → Grows (reading rules allows depth n ts) (reading rules always (depth + more) n ts)
   unfolding reading
@@ -105,10 +117,10 @@ module _ {Token Name : Type 0} {Value : Name → Type 0} (rules : (n : Name) →
       (after_grows (allows_at allows depth) (allows_at always (depth + more)) (reading rules allows depth) (reading rules always (depth + more)) (wider_test allows depth more) (shrinks always (depth + more)) (name_grows allows depth more) (rules n) ts)
 
   -- without limits, a little more depth than there are tokens is enough
-  name_safe : (depth : ℕ) (n : Name) → IsSafe (reading rules always (suc (suc depth)) n) depth
+  name_safe : (depth : ℕ) (n : Name) → IsSafe (reading rules always (suc (suc (suc depth))) n) depth
   unfolding reading
-  name_safe zero n ts h = after_safe (allows_at always 1) (λ w n. refl) (reading rules always 1) (shrinks always 1) (rules n) 0 (λ m us k. absurd (omega arith)) ts h
-  name_safe (suc depth) n ts h = after_safe (allows_at always (suc (suc depth))) (λ w n. refl) (reading rules always (suc (suc depth))) (shrinks always (suc (suc depth))) (rules n) (suc depth) (λ m us k. name_safe depth m us (omega arith)) ts h
+  name_safe zero n ts h = after_safe (allows_at always 2) (λ w n. refl) (reading rules always 2) (shrinks always 2) (rules n) 0 (λ m us k. absurd (omega arith)) ts h
+  name_safe (suc depth) n ts h = after_safe (allows_at always (suc (suc (suc depth)))) (λ w n. refl) (reading rules always (suc (suc (suc depth)))) (shrinks always (suc (suc (suc depth)))) (rules n) (suc depth) (λ m us k. name_safe depth m us (omega arith)) ts h
 
   -- ---- a form
 
@@ -128,12 +140,12 @@ module _ {Token Name : Type 0} {Value : Name → Type 0} (rules : (n : Name) →
     grows_at : (allows : ℕ → Bool) (depth more : ℕ) (ts : List Token) → Grows (read_at allows depth ts) (read_at always (depth + more) ts)
     grows_at allows depth more ts = read_grows (allows_at allows depth) (allows_at always (depth + more)) (reading rules allows depth) (reading rules always (depth + more)) (wider_test allows depth more) (shrinks always (depth + more)) (name_grows allows depth more) F ts
 
-    safe_at : (depth : ℕ) → IsSafe (read_at always (suc (suc depth))) depth
-    safe_at depth ts h = read_safe (allows_at always (suc (suc depth))) (λ w n. refl) (reading rules always (suc (suc depth))) (shrinks always (suc (suc depth))) F depth (λ m us k. name_safe depth m us (omega arith)) ts h
+    safe_at : (depth : ℕ) → IsSafe (read_at always (suc (suc (suc depth)))) depth
+    safe_at depth ts h = read_safe (allows_at always (suc (suc (suc depth)))) (λ w n. refl) (reading rules always (suc (suc (suc depth)))) (shrinks always (suc (suc (suc depth)))) F depth (λ m us k. name_safe depth m us (omega arith)) ts h
 
-    safe_enough : (d n : ℕ) (ts : List Token) → length ts ≤ n → IsSettled (read_at always (d + suc (suc n)) ts)
+    safe_enough : (d n : ℕ) (ts : List Token) → length ts ≤ n → IsSettled (read_at always (d + suc (suc (suc n))) ts)
     safe_enough d n ts h =
-        let e : suc (suc (d + n)) ≡ d + suc (suc n) = omega arith in
+        let e : suc (suc (suc (d + n))) ≡ d + suc (suc (suc n)) = omega arith in
         subst (λ m. IsSettled (read_at always m ts)) e (safe_at (d + n) ts (omega arith))
 
     wider_left : (allows : ℕ → Bool) (d e : ℕ) (ts : List Token) (o : Outcome Token A) → read_at allows d ts ≡ o → IsSettled o → read_at always (d + e) ts ≡ o
@@ -215,7 +227,7 @@ module _ {Token Name : Type 0} {Value : Name → Type 0} (rules : (n : Name) →
       pub is_too_deep : o ≡ Deep rest → IsTooDeep rules F allows d ts rest
       is_too_deep r =
           let a : read_at allows d e.front ≡ Deep [] = alone_deep (read_at allows d e.front) rest (sym (alone (Deep rest) r refl)) in
-          let n = suc (suc (length e.front)) in
+          let n = suc (suc (suc (length e.front))) in
           let wide : Outcome Token A = read_at always (d + n) e.front in
           let g : IsEnd (left wide) [] = subst (λ p. Grows p wide) a (grows_at allows d n e.front) in
           let s : IsSettled wide = safe_enough d (length e.front) e.front (omega arith) in

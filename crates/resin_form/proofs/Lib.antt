@@ -9,3 +9,5 @@ pub mod Loops
 pub mod Drops
 pub mod Turns
 pub mod Gives
+pub mod Alike
+pub mod Inside

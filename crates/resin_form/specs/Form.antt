@@ -11,9 +11,11 @@ pub data Begin : Type 0 where
   Own : Begin
   Named : Begin
 
--- what a token does: it opens a construct, or it only stands to the right of a tree
+-- What a token does. It opens a construct, which begins behind it; or it is the first token of a construct, which a name
+-- behind the token before it has begun; or it only stands to the right of a tree.
 pub data Weight : Type 0 where
   Opens : Weight
+  Enters : Weight
   Stands : Weight
 
 mutual
@@ -33,11 +35,12 @@ mutual
   -- what follows a token
   pub data After (Token Name : Type 0) (Value : Name → Type 0) : Begin → Type 0 → Type 1 where
     plain : {b : Begin} {A : Type 0} → Form Token Name Value A → After Token Name Value b A
-    -- the token opens a construct, or only stands there, to the right of a tree of this height
+    -- the token opens or enters a construct, or only stands there, to the right of a tree of this height
     limited : {b : Begin} {A : Type 0} → Weight → ℕ → After Token Name Value b A → After Token Name Value b A
     -- this, and then another form, which may go by its value
     followed : {b : Begin} {A B : Type 0} → After Token Name Value b B → (B → Form Token Name Value A) → After Token Name Value b A
-    -- what the name stands for, one construct deeper
+    -- What the name stands for, one construct deeper. The construct is opened by the token before, or it is entered by
+    -- its own first token.
     call : (n : Name) → After Token Name Value Named (Value n)
 
 -- the next token, if there is one, doesn't pass
@@ -63,11 +66,15 @@ taken F = plain F
 abbrev pub opens : {Token Name : Type 0} {Value : Name → Type 0} {b : Begin} {A : Type 0} → ℕ → After Token Name Value b A → After Token Name Value b A
 opens height F = limited Opens height F
 
+-- the token is the first of a construct, which the name for it has begun
+abbrev pub enters : {Token Name : Type 0} {Value : Name → Type 0} {b : Begin} {A : Type 0} → After Token Name Value b A → After Token Name Value b A
+enters F = limited Enters 0 F
+
 -- the token opens nothing, and stands to the right of a tree of this height
 abbrev pub stands : {Token Name : Type 0} {Value : Name → Type 0} {b : Begin} {A : Type 0} → ℕ → After Token Name Value b A → After Token Name Value b A
 stands height F = limited Stands height F
 
--- `allows`: whether a construct may open, or a token stand, to the right of a tree of this height;
+-- `allows`: whether a construct may open or be entered, or a token stand, to the right of a tree of this height;
 -- `Called`: what the names spell
 module _ {Token Name : Type 0} {Value : Name → Type 0} (allows : Weight → ℕ → Bool) (Called : (n : Name) → List Token → Value n → List Token → Type 0) where
   abbrev mutual

@@ -3,3 +3,4 @@ pub mod Reading
 pub mod Meaning
 pub mod Reads
 pub mod Parity
+pub mod Lift

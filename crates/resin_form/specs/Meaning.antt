@@ -1,22 +1,27 @@
 -- Which tokens are a form, and which are the front of one, for any rules of the names.
 use Rattle.std.specs.Prelude.{◌≡◌, ℕ, zero, suc, Bool, true, false, List, [], ◌∷◌, ◌++◌, ◌⊎◌}
-use Rattle.resin_form.specs.Form.{Own, Weight, Opens, Stands, Form, After, Spells, SpellsAfter, Begins, BeginsAfter}
+use Rattle.resin_form.specs.Form.{Own, Weight, Opens, Enters, Stands, Form, After, Spells, SpellsAfter, Begins, BeginsAfter}
 use Rattle.resin_form.specs.Reading.{Reader, Deep, read, read_after}
 
--- Where the limit on nesting is reached, nothing may open. `allows`: the heights of the trees that an operator may
--- take on its left.
+-- Whether a token may do this where the depth is one more than the constructs that may still open in one another. At 1
+-- nothing may open. At 0 a name has begun a construct past the limit: its first token, which would enter it, may not.
+-- `allows`: the heights of the trees that an operator may take on its left.
 abbrev pub allows_at : (ℕ → Bool) → ℕ → Weight → ℕ → Bool
 allows_at allows zero Opens height = false
+allows_at allows zero Enters height = false
 allows_at allows zero Stands height = allows height
-allows_at allows (suc depth) weight height = allows height
+allows_at allows (suc zero) Opens height = false
+allows_at allows (suc zero) Enters height = allows height
+allows_at allows (suc zero) Stands height = allows height
+allows_at allows (suc (suc depth)) weight height = allows height
 
 abbrev pub always : ℕ → Bool
 always = λ _. true
 
 module _ {Token Name : Type 0} {Value : Name → Type 0} (rules : (n : Name) → After Token Name Value Own (Value n)) where
   module _ (allows : ℕ → Bool) where
-    -- `NameSpells depth n ts v rest`: ts begin with what the name n stands for and go on with rest; fewer than
-    -- `depth` constructs are open in one another there
+    -- `NameSpells depth n ts v rest`: ts begin with what the name n stands for and go on with rest; with the construct
+    -- of the name itself, fewer than `depth` constructs are open in one another there
     unfoldable pub NameSpells : ℕ → (n : Name) → List Token → Value n → List Token → Type 0
     NameSpells zero n ts v rest = ⊥
     NameSpells (suc depth) n ts v rest = SpellsAfter (allows_at allows depth) (NameSpells depth) (rules n) ts v rest
@@ -30,7 +35,7 @@ module _ {Token Name : Type 0} {Value : Name → Type 0} (rules : (n : Name) →
     reading zero n ts = Deep ts
     reading (suc depth) n ts = read_after (allows_at allows depth) (reading depth) (rules n) ts
 
-    -- a form in which up to `depth` constructs are open in one another
+    -- a form in which fewer than `depth` constructs are open in one another
     abbrev pub SpellsWithin : {A : Type 0} → ℕ → Form Token Name Value A → List Token → A → List Token → Type 0
     SpellsWithin depth F = Spells (allows_at allows depth) (NameSpells depth) F
 

@@ -1,24 +1,30 @@
--- A small grammar, as an example: sums of ones, with brackets, and whether they are odd.
-use Rattle.std.specs.Prelude.{ℕ, Bool, true, false, not, List, Result, Ok, Err}
+-- A small grammar, as an example: sums of ones, with brackets and `!`, and whether they are odd.
+use Rattle.std.specs.Prelude.{ℕ, suc, ◌<◌, Bool, true, false, not, List, Result, Ok, Err}
 use denote.Ref.{MutBor}
-use Rattle.resin_form.specs.Form.{Begin, Own, Named, Form, give, andthen, next, many, After, plain, taken, opens, call}
+use Rattle.resin_form.specs.Form.{Begin, Own, Named, Form, give, andthen, next, many, After, plain, followed, taken, opens, enters, call}
 use Rattle.resin_form.specs.Reading.{Reader, read, read_after}
 use Rattle.resin_form.specs.Meaning.{allows_at, always, reading, IsRead, IsRefused, IsTooDeep}
 use Rattle.resin_form.specs.Reads.{Reads}
 use Rattle.resin_form.specs.declared.fault.Fault.{Fault}
 use Rattle.resin_form.specs.declared.fault.Fault.TheVariants.{Syntax, TooDeep, Memory}
 use Rattle.resin_form.specs.declared.parity.Sign.{Sign}
-use Rattle.resin_form.specs.declared.parity.Sign.TheVariants.{One, Plus, Open, Close}
+use Rattle.resin_form.specs.declared.parity.Sign.TheVariants.{One, Plus, Not, Open, Close}
+use Rattle.resin_form.specs.declared.parity.Construct.{Construct}
+use Rattle.resin_form.specs.declared.parity.Construct.TheVariants.{Bracketed, Negated}
 
--- what may hold itself: what follows an opening bracket
-pub data Name : Type 0 where
-  Bracketed : Name
+-- Each construct is a name of the grammar and gives whether it is odd.
+abbrev pub Value : Construct → Type 0
+Value n = Bool
 
-abbrev pub Value : Name → Type 0
-Value Bracketed = Bool
+abbrev pub Rule : Type 1
+Rule = Form Sign Construct Value Bool
+
+abbrev pub Behind : Type 1
+Behind = After Sign Construct Value Named Bool
 
 abbrev pub begins_term : Sign → Bool
 begins_term One = true
+begins_term Not = true
 begins_term Open = true
 begins_term _ = false
 
@@ -36,48 +42,63 @@ differs true b = not b
 differs false b = b
 
 -- an opening bracket opens a construct
-unfoldable pub opened : After Sign Name Value Named Bool
+unfoldable pub opened : Behind
 opened = opens 0 (call Bracketed)
 
--- a one, or a sum in brackets, by its first sign
-abbrev pub term : Sign → After Sign Name Value Named Bool
+-- a `!` opens nothing: the term behind it is a construct, which its own first sign enters
+unfoldable pub negated : Behind
+negated = followed (call Negated) (λ odd. give (not odd))
+
+-- a one, a sum in brackets, or a term behind `!`, by its first sign
+abbrev pub term : Sign → Behind
 term Open = opened
+term Not = negated
 term _ = plain (give true)
 
-abbrev pub next_term : Form Sign Name Value Bool
+abbrev pub next_term : Rule
 next_term = next begins_term term
 
+-- the term behind a `!`
+unfoldable pub entered : Rule
+entered = next begins_term (λ t. enters (term t))
+
 -- a term behind a plus
-unfoldable pub added : Bool → Form Sign Name Value Bool
+unfoldable pub added : Bool → Rule
 added odd = andthen next_term (λ other. give (differs odd other))
 
 -- `+ term` again and again
-unfoldable pub more : Bool → Form Sign Name Value Bool
+unfoldable pub more : Bool → Rule
 more odd = many (λ _ t. is_plus t) (λ odd _. taken (added odd)) odd
 
-unfoldable pub sum : Form Sign Name Value Bool
+unfoldable pub sum : Rule
 sum = andthen next_term more
 
-unfoldable pub bracketed : Form Sign Name Value Bool
+unfoldable pub bracketed : Rule
 bracketed = andthen sum (λ odd. next is_close (λ _. taken (give odd)))
 
-abbrev pub rules : (n : Name) → After Sign Name Value Own (Value n)
+abbrev pub rules : (n : Construct) → After Sign Construct Value Own (Value n)
 rules Bracketed = plain bracketed
+rules Negated = plain entered
 
-abbrev pub under : {A : Type 0} → ℕ → Form Sign Name Value A → Reader Sign A
-under depth F = read (allows_at always depth) (reading rules always depth) F
+-- what the signs begin with, by a form, where so many constructs may still open in one another
+abbrev pub under : {A : Type 0} → ℕ → Form Sign Construct Value A → Reader Sign A
+under depth F = read (allows_at always (suc depth)) (reading rules always (suc depth)) F
 
-abbrev pub behind : {b : Begin} {A : Type 0} → ℕ → After Sign Name Value b A → Reader Sign A
-behind depth F = read_after (allows_at always depth) (reading rules always depth) F
+abbrev pub behind : {b : Begin} {A : Type 0} → ℕ → After Sign Construct Value b A → Reader Sign A
+behind depth F = read_after (allows_at always (suc depth)) (reading rules always (suc depth)) F
 
--- what the sum at the front of the signs is, where so many brackets may be open in one another, unless memory runs out
+-- what the sum at the front of the signs is, where so many constructs may be open in one another, unless memory runs out
 abbrev pub Gives : ℕ → List Sign → Result Bool Fault → List Sign → Type 0
-Gives depth ts (Ok odd) rest = IsRead rules sum always depth ts odd rest
-Gives depth ts (Err Syntax) rest = IsRefused rules sum always depth ts rest
-Gives depth ts (Err TooDeep) rest = IsTooDeep rules sum always depth ts rest
+Gives depth ts (Ok odd) rest = IsRead rules sum always (suc depth) ts odd rest
+Gives depth ts (Err Syntax) rest = IsRefused rules sum always (suc depth) ts rest
+Gives depth ts (Err TooDeep) rest = IsTooDeep rules sum always (suc depth) ts rest
 Gives depth ts (Err Memory) rest = Unit {0}
 
--- a function value that reads what stands in brackets, to a depth
-pub record Nests (depth : ℕ) (pre : MutBor (List Sign) → ℕ → Type 0) (post : MutBor (List Sign) → ℕ → Result Bool Fault → MutBor (List Sign) → Type 0) : Type 0 where
-  pub callable : (old : MutBor (List Sign)) → pre old depth
-  pub reads : (old new : MutBor (List Sign)) (r : Result Bool Fault) → post old depth r new → Reads (reading rules always depth Bracketed old.now) r new.now
+abbrev pub body : Construct → Rule
+body Bracketed = bracketed
+body Negated = entered
+
+-- a function value that reads the inside of a construct, where fewer constructs than the bound may still open in it
+pub record Nests (bound : ℕ) (pre : MutBor (List Sign) → Construct → ℕ → Type 0) (post : MutBor (List Sign) → Construct → ℕ → Result Bool Fault → MutBor (List Sign) → Type 0) : Type 0 where
+  pub callable : (old : MutBor (List Sign)) (n : Construct) (depth : ℕ) → depth < bound → pre old n depth
+  pub reads : (old new : MutBor (List Sign)) (n : Construct) (depth : ℕ) (r : Result Bool Fault) → depth < bound → post old n depth r new → Reads (under depth (body n) old.now) r new.now

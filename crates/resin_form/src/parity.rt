@@ -1,9 +1,11 @@
-//! A small grammar, as an example of how one is read: sums of ones, with brackets, and whether they are odd.
+//! A small grammar, as an example of how one is read: sums of ones, with brackets and `!`, and whether they are odd.
 
-ghost use Rattle.std.specs.Prelude.{◌≡◌, Bool, List, ◌++◌};
-ghost use Rattle.resin_form.specs.Meaning.{IsFront, IsTree, always, reading};
+ghost use Rattle.std.specs.Prelude.{◌≡◌, ◌<◌, suc, Bool, List, ◌++◌};
+ghost use Rattle.resin_form.specs.Meaning.{IsFront, IsTree, allows_at, always, reading};
+ghost use Rattle.resin_form.specs.Reading.{read};
 ghost use Rattle.resin_form.specs.Parity as spec;
-ghost use Rattle.resin_form.specs.Parity.{Bracketed, Gives, Nests, behind, under};
+ghost use Rattle.resin_form.specs.Parity.{Gives, Nests, behind, under};
+ghost use Rattle.resin_form.specs.declared.parity.Construct.TheVariants.{Negated};
 ghost use Rattle.resin_form.specs.Reads.{Reads};
 
 use crate::cursor::Cursor;
@@ -14,8 +16,18 @@ use crate::fault::Fault;
 pub enum Sign {
     One,
     Plus,
+    Not,
     Open,
     Close,
+}
+
+/// What may stand in itself.
+#[derive(Clone, Copy, Debug, PartialEq, Eq)]
+pub enum Construct {
+    /// A sum and its closing bracket.
+    Bracketed,
+    /// The term behind a `!`.
+    Negated,
 }
 
 fn begins_term(sign: Sign) -> bool
@@ -23,6 +35,7 @@ fn begins_term(sign: Sign) -> bool
 {
     match sign {
         Sign::One => true,
+        Sign::Not => true,
         Sign::Open => true,
         _ => false,
     }
@@ -54,43 +67,80 @@ fn differs(odd: bool, other: bool) -> bool
 
 #[derive(Clone, Copy)]
 struct Parser<F> {
-    /// How many brackets may still open in one another.
+    /// How many constructs may still open in one another.
     depth: usize,
-    bracketed: F,
+    within: F,
 }
 
-impl<F: Fn(&mut Cursor<'_, Sign>, usize) -> Result<bool, Fault>> Parser<F> {
-    fn nested(&self, signs: &mut Cursor<'_, Sign>) -> Result<bool, Fault>
-        requires { Nests self.now.depth (F.pre self.now.bracketed) (F.post self.now.bracketed) }
-        ensures { Reads (reading spec.rules always self.now.depth Bracketed signs.old) result signs.new }
+/// The term behind a `!`, where no construct may open: its first sign enters one too many.
+#[tactic(auto, unfolding(crate::specs::Parity::entered))]
+fn no_room(signs: &mut Cursor<'_, Sign>) -> Result<bool, Fault>
+    ensures { Reads (read (allows_at always 0) (reading spec.rules always 0) spec.entered signs.old) result signs.new }
+{
+    match signs.peek() {
+        Some(next) if begins_term(*next) => {
+            signs.skip(next);
+            Err(Fault::TooDeep)
+        }
+        _ => Err(Fault::Syntax),
+    }
+}
+
+impl<F: Fn(&mut Cursor<'_, Sign>, Construct, usize) -> Result<bool, Fault>> Parser<F> {
+    /// The inside of a construct.
+    fn inside(&self, signs: &mut Cursor<'_, Sign>, construct: Construct) -> Result<bool, Fault>
+        requires nests { Nests self.now.depth (F.pre self.now.within) (F.post self.now.within) }
+        requires room { 0 < self.now.depth }
+        ensures { Reads (reading spec.rules always (suc self.now.depth) construct signs.old) result signs.new }
     {
-        (self.bracketed)(signs, self.depth)
+        (self.within)(signs, construct, self.depth - 1)
     }
 
     /// What an opening bracket opens.
     #[tactic(auto, unfolding(crate::specs::Parity::opened))]
     fn opened(&self, signs: &mut Cursor<'_, Sign>) -> Result<bool, Fault>
-        requires { Nests self.now.depth (F.pre self.now.bracketed) (F.post self.now.bracketed) }
+        requires { Nests self.now.depth (F.pre self.now.within) (F.post self.now.within) }
         ensures { Reads (behind self.now.depth spec.opened signs.old) result signs.new }
     {
         if self.depth == 0 {
             return Err(Fault::TooDeep);
         }
-        self.nested(signs)
+        self.inside(signs, Construct::Bracketed)
+    }
+
+    /// The term behind a `!`.
+    fn behind_not(&self, signs: &mut Cursor<'_, Sign>) -> Result<bool, Fault>
+        requires { Nests self.now.depth (F.pre self.now.within) (F.post self.now.within) }
+        ensures { Reads (reading spec.rules always (suc self.now.depth) Negated signs.old) result signs.new }
+    {
+        if self.depth == 0 {
+            return no_room(signs);
+        }
+        self.inside(signs, Construct::Negated)
+    }
+
+    #[tactic(auto, unfolding(crate::specs::Parity::negated))]
+    fn negated(&self, signs: &mut Cursor<'_, Sign>) -> Result<bool, Fault>
+        requires { Nests self.now.depth (F.pre self.now.within) (F.post self.now.within) }
+        ensures { Reads (behind self.now.depth spec.negated signs.old) result signs.new }
+    {
+        let odd = self.behind_not(signs)?;
+        Ok(!odd)
     }
 
     fn term(&self, signs: &mut Cursor<'_, Sign>, sign: Sign) -> Result<bool, Fault>
-        requires { Nests self.now.depth (F.pre self.now.bracketed) (F.post self.now.bracketed) }
+        requires { Nests self.now.depth (F.pre self.now.within) (F.post self.now.within) }
         ensures { Reads (behind self.now.depth (spec.term sign) signs.old) result signs.new }
     {
         match sign {
             Sign::Open => self.opened(signs),
+            Sign::Not => self.negated(signs),
             _ => Ok(true),
         }
     }
 
     fn next_term(&self, signs: &mut Cursor<'_, Sign>) -> Result<bool, Fault>
-        requires { Nests self.now.depth (F.pre self.now.bracketed) (F.post self.now.bracketed) }
+        requires { Nests self.now.depth (F.pre self.now.within) (F.post self.now.within) }
         ensures { Reads (under self.now.depth spec.next_term signs.old) result signs.new }
     {
         match signs.peek() {
@@ -102,9 +152,18 @@ impl<F: Fn(&mut Cursor<'_, Sign>, usize) -> Result<bool, Fault>> Parser<F> {
         }
     }
 
+    /// The first term of a construct, which enters it.
+    #[tactic(auto, unfolding(crate::specs::Parity::entered))]
+    fn entered(&self, signs: &mut Cursor<'_, Sign>) -> Result<bool, Fault>
+        requires { Nests self.now.depth (F.pre self.now.within) (F.post self.now.within) }
+        ensures { Reads (under self.now.depth spec.entered signs.old) result signs.new }
+    {
+        self.next_term(signs)
+    }
+
     #[tactic(auto, unfolding(crate::specs::Parity::added))]
     fn added(&self, signs: &mut Cursor<'_, Sign>, odd: bool) -> Result<bool, Fault>
-        requires { Nests self.now.depth (F.pre self.now.bracketed) (F.post self.now.bracketed) }
+        requires { Nests self.now.depth (F.pre self.now.within) (F.post self.now.within) }
         ensures { Reads (under self.now.depth (spec.added odd) signs.old) result signs.new }
     {
         let other = self.next_term(signs)?;
@@ -112,7 +171,7 @@ impl<F: Fn(&mut Cursor<'_, Sign>, usize) -> Result<bool, Fault>> Parser<F> {
     }
 
     fn more(&self, signs: &mut Cursor<'_, Sign>, first: bool) -> Result<bool, Fault>
-        requires { Nests self.now.depth (F.pre self.now.bracketed) (F.post self.now.bracketed) }
+        requires { Nests self.now.depth (F.pre self.now.within) (F.post self.now.within) }
         ensures { Reads (under self.now.depth (spec.more first) signs.old) result signs.new }
     {
         let mut odd = first;
@@ -128,7 +187,7 @@ impl<F: Fn(&mut Cursor<'_, Sign>, usize) -> Result<bool, Fault>> Parser<F> {
 
     #[tactic(auto, unfolding(crate::specs::Parity::sum))]
     fn sum(&self, signs: &mut Cursor<'_, Sign>) -> Result<bool, Fault>
-        requires { Nests self.now.depth (F.pre self.now.bracketed) (F.post self.now.bracketed) }
+        requires { Nests self.now.depth (F.pre self.now.within) (F.post self.now.within) }
         ensures { Reads (under self.now.depth spec.sum signs.old) result signs.new }
     {
         let first = self.next_term(signs)?;
@@ -137,7 +196,7 @@ impl<F: Fn(&mut Cursor<'_, Sign>, usize) -> Result<bool, Fault>> Parser<F> {
 
     #[tactic(auto, unfolding(crate::specs::Parity::bracketed))]
     fn in_brackets(&self, signs: &mut Cursor<'_, Sign>) -> Result<bool, Fault>
-        requires { Nests self.now.depth (F.pre self.now.bracketed) (F.post self.now.bracketed) }
+        requires { Nests self.now.depth (F.pre self.now.within) (F.post self.now.within) }
         ensures { Reads (under self.now.depth spec.bracketed signs.old) result signs.new }
     {
         let odd = self.sum(signs)?;
@@ -151,27 +210,24 @@ impl<F: Fn(&mut Cursor<'_, Sign>, usize) -> Result<bool, Fault>> Parser<F> {
     }
 }
 
-/// What stands in brackets, behind the opening one.
-#[tactic(auto, unfolding(crate::specs::Meaning::reading))]
-fn bracketed(signs: &mut Cursor<'_, Sign>, depth: usize) -> Result<bool, Fault>
-    ensures { Reads (reading spec.rules always depth Bracketed signs.old) result signs.new }
+/// The inside of a construct, in which so many may still open in one another.
+fn within(signs: &mut Cursor<'_, Sign>, construct: Construct, depth: usize) -> Result<bool, Fault>
+    ensures { Reads (under depth (spec.body construct) signs.old) result signs.new }
 {
-    if depth == 0 {
-        return Err(Fault::TooDeep);
+    let parser = Parser { depth, within };
+    match construct {
+        Construct::Bracketed => parser.in_brackets(signs),
+        Construct::Negated => parser.entered(signs),
     }
-    Parser {
-        depth: depth - 1,
-        bracketed,
-    }
-    .in_brackets(signs)
 }
 
 /// Whether the sum that the signs begin with is odd: the longest run of signs that is the front of a sum, where that
-/// is one. What is left is behind it, or from the fault on. At most `depth` brackets may be open in one another.
+/// is one. What is left is behind it, or from the fault on. At most `depth` constructs may be open in one another: each
+/// bracket is one, and each term behind a `!`.
 pub fn is_odd(signs: &mut Cursor<'_, Sign>, depth: usize) -> Result<bool, Fault>
     ensures { Gives depth signs.old result signs.new }
 {
-    Parser { depth, bracketed }.sum(signs)
+    Parser { depth, within }.sum(signs)
 }
 
 /// A law of the grammar: a list of signs is one sum at most, and what a front of a sum begins with is a front too.
@@ -194,7 +250,7 @@ mod tests {
     /// The places and answers were worked out by hand.
     #[test]
     fn sums_with_brackets(rt: HostRuntime) -> Result<(), Fail> {
-        use Sign::{Close, One, Open, Plus};
+        use Sign::{Close, Not, One, Open, Plus};
         sums_are_read_one_way();
         assert_eq!(rt; outcome(&[One], 0), (1, Ok(true)));
         assert_eq!(rt; outcome(&[One, Plus, One], 0), (3, Ok(false)));
@@ -210,6 +266,14 @@ mod tests {
         assert_eq!(rt; outcome(&[Open, One, Close], 0), (1, Err(Fault::TooDeep)));
         assert_eq!(rt; outcome(&[Open, Open, Close], 1), (2, Err(Fault::TooDeep)));
         assert_eq!(rt; outcome(&[Open, Open, Close], 2), (2, Err(Fault::Syntax)));
+        assert_eq!(rt; outcome(&[Not, One, Plus, One], 1), (4, Ok(true)));
+        assert_eq!(rt; outcome(&[Not, One], 0), (2, Err(Fault::TooDeep)));
+        assert_eq!(rt; outcome(&[Not, Plus], 0), (1, Err(Fault::Syntax)));
+        assert_eq!(rt;
+            outcome(&[Not, Open, One, Close], 1),
+            (2, Err(Fault::TooDeep))
+        );
+        assert_eq!(rt; outcome(&[Not, Open, One, Close], 2), (4, Ok(false)));
         Ok(())
     }
 }
