@@ -1,0 +1,41 @@
+use Rattle.std.proofs.Common.{◌≡◌, suc, true, Some, None, rules}
+use Rattle.std.specs.Prelude.{◌==◌, ◌&&◌, not}
+use Rattle.std.proofs.lemmas.Result.{err_from_is_err_and}
+use Rattle.resin_form.specs.Form.{taken}
+use Rattle.resin_form.proofs.Turns.{smaller, goes_on, fails, ends}
+use Rattle.resin_grammar.specs.declared.sign.Sign.TheVariants as s
+use Rattle.resin_grammar.specs.Expressions as spec
+use Rattle.resin_grammar.specs.Operators.{level_of}
+use Rattle.resin_grammar.specs.Reading.{under, is_low}
+use Rattle.resin_grammar.specs.Signs.{is_sign}
+use Rattle.resin_parse_expr.proofs.levels.Levels.target_postfixes.Goals as goal
+
+pub returns-in_err-operand : goal.returns-in_err-operand
+unfolding spec.target_postfixes
+returns-in_err-operand g c =
+    let p = err_from_is_err_and c.from_residual.result c.from_residual.ensures.1 in
+    let h : spec.takes_postfix c.turns.operand c.in-Some.next.now.kind ≡ true = search rules in
+    rw (p.1, p.2) (fails spec.rules is_low (suc c.args.self.now.parser.depth) (λ o t. spec.takes_postfix o t.kind) (λ o t. spec.operand_postfix o t.kind) _ c.turns.operand c.turns.tokens c.turns.invariant
+    c.in-Some.next.now c.skip.new.self c.operand_postfix.new.tokens c.in_err-operand.field-0.0 c.skip.ensures h c.in_err-operand.ensures)
+
+pub turns-smaller : goal.turns-smaller
+turns-smaller g c = smaller spec.rules is_low (suc c.args.self.now.parser.depth) (spec.operand_postfix c.turns.operand c.in-Some.next.now.kind) c.turns.tokens c.in-Some.next.now c.skip.new.self c.in_ok-operand.operand c.operand_postfix.new.tokens c.skip.ensures c.in_ok-operand.ensures
+
+pub turns-preserved : goal.turns-preserved
+unfolding spec.target_postfixes
+turns-preserved g c =
+    let h : spec.takes_postfix c.turns.operand c.in-Some.next.now.kind ≡ true = search rules in
+    goes_on spec.rules is_low (suc c.args.self.now.parser.depth) (λ o t. spec.takes_postfix o t.kind) (λ o t. spec.operand_postfix o t.kind) _ c.turns.operand c.turns.tokens c.turns.invariant
+    c.in-Some.next.now c.skip.new.self c.operand_postfix.new.tokens c.in_ok-operand.operand c.skip.ensures h c.in_ok-operand.ensures
+
+pub returns-then-not-takes_postfix : goal.returns-then-not-takes_postfix
+unfolding spec.target_postfixes
+returns-then-not-takes_postfix g c =
+    ends spec.rules is_low (suc c.args.self.now.parser.depth) (λ o t. spec.takes_postfix o t.kind) (λ o t. spec.operand_postfix o t.kind) _ c.turns.operand c.turns.tokens c.turns.invariant
+    (Some c.in-Some.next.now) (search rules) (λ t e. let same : t ≡ c.in-Some.next.now = cc in rw same (search rules))
+
+pub returns-in_default : goal.returns-in_default
+unfolding spec.target_postfixes
+returns-in_default g c =
+    ends spec.rules is_low (suc c.args.self.now.parser.depth) (λ o t. spec.takes_postfix o t.kind) (λ o t. spec.operand_postfix o t.kind) _ c.turns.operand c.turns.tokens c.turns.invariant
+    None (search rules) (λ t e. cc)

@@ -1,0 +1,2 @@
+pub mod OpenedLaws
+pub mod Fewer

@@ -1,0 +1,41 @@
+use Rattle.std.proofs.Common.{◌≡◌, suc, true, Some, None, rules}
+use Rattle.std.specs.Prelude.{◌==◌, ◌&&◌, not}
+use Rattle.std.proofs.lemmas.Result.{err_from_is_err_and}
+use Rattle.resin_form.specs.Form.{taken}
+use Rattle.resin_form.proofs.Turns.{smaller, goes_on, fails, ends}
+use Rattle.resin_grammar.specs.declared.sign.Sign.TheVariants as s
+use Rattle.resin_grammar.specs.Expressions as spec
+use Rattle.resin_grammar.specs.Operators.{level_of}
+use Rattle.resin_grammar.specs.Reading.{under, is_low}
+use Rattle.resin_grammar.specs.Signs.{is_sign}
+use Rattle.resin_parse_part.proofs.parser.Parser.more_arguments.Goals as goal
+
+pub returns-in_err-longer : goal.returns-in_err-longer
+unfolding spec.more_arguments
+returns-in_err-longer g c =
+    let p = err_from_is_err_and c.from_residual.result c.from_residual.ensures.1 in
+    let h : (not c.turns.closed && is_sign s.Comma c.in-Some.next.now.kind) ≡ true = search rules in
+    rw (p.1, p.2) (fails spec.rules is_low (suc c.args.self.now.depth) (λ done t. not done.1 && is_sign s.Comma t.kind) (λ done _. taken (spec.argument done.0)) _ (c.turns.arguments, c.turns.closed) c.turns.tokens c.turns.invariant
+    c.in-Some.next.now c.skip.new.self c.argument.new.tokens c.in_err-longer.field-0.0 c.skip.ensures h c.in_err-longer.ensures)
+
+pub turns-smaller : goal.turns-smaller
+turns-smaller g c = smaller spec.rules is_low (suc c.args.self.now.depth) (taken (spec.argument c.turns.arguments)) c.turns.tokens c.in-Some.next.now c.skip.new.self (c.in_ok-longer.longer, c.in_ok-longer.ended) c.argument.new.tokens c.skip.ensures c.in_ok-longer.ensures
+
+pub turns-preserved : goal.turns-preserved
+unfolding spec.more_arguments
+turns-preserved g c =
+    let h : (not c.turns.closed && is_sign s.Comma c.in-Some.next.now.kind) ≡ true = search rules in
+    goes_on spec.rules is_low (suc c.args.self.now.depth) (λ done t. not done.1 && is_sign s.Comma t.kind) (λ done _. taken (spec.argument done.0)) _ (c.turns.arguments, c.turns.closed) c.turns.tokens c.turns.invariant
+    c.in-Some.next.now c.skip.new.self c.argument.new.tokens (c.in_ok-longer.longer, c.in_ok-longer.ended) c.skip.ensures h c.in_ok-longer.ensures
+
+pub returns-then-not-comma_follows : goal.returns-then-not-comma_follows
+unfolding spec.more_arguments
+returns-then-not-comma_follows g c =
+    ends spec.rules is_low (suc c.args.self.now.depth) (λ done t. not done.1 && is_sign s.Comma t.kind) (λ done _. taken (spec.argument done.0)) _ (c.turns.arguments, c.turns.closed) c.turns.tokens c.turns.invariant
+    (Some c.in-Some.next.now) (search rules) (λ t e. let same : t ≡ c.in-Some.next.now = cc in rw same (search rules))
+
+pub returns-in_default : goal.returns-in_default
+unfolding spec.more_arguments
+returns-in_default g c =
+    ends spec.rules is_low (suc c.args.self.now.depth) (λ done t. not done.1 && is_sign s.Comma t.kind) (λ done _. taken (spec.argument done.0)) _ (c.turns.arguments, c.turns.closed) c.turns.tokens c.turns.invariant
+    None (search rules) (λ t e. cc)
