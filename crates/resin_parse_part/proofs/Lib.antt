@@ -1,2 +1,3 @@
 pub mod OpenedLaws
 pub mod Fewer
+pub mod RoomLaws
