@@ -1,3 +1,2 @@
 pub mod OpenedLaws
 pub mod Fewer
-pub mod RoomLaws

@@ -16,7 +16,6 @@ use std::alloc::Global;
 
 impl<F: Fn(Global, &mut Cursor<'_, Token>, usize, u8) -> Result<Tall, Fault> + Copy> Parser<F> {
     /// `e )`, behind `(`.
-    #[tactic(auto, using(crate::proofs::OpenedLaws::opened))]
     pub fn in_brackets(&self, tokens: &mut Cursor<'_, Token>) -> Result<Tall, Fault>
         requires nests { Nests self.now.depth (F.pre self.now.level) (F.post self.now.level) }
         requires room { 0 < self.now.depth }
@@ -26,7 +25,6 @@ impl<F: Fn(Global, &mut Cursor<'_, Token>, usize, u8) -> Result<Tall, Fault> + C
     }
 
     /// `e ]`, behind `[`.
-    #[tactic(auto, using(crate::proofs::OpenedLaws::opened))]
     pub fn in_index(&self, tokens: &mut Cursor<'_, Token>) -> Result<Tall, Fault>
         requires nests { Nests self.now.depth (F.pre self.now.level) (F.post self.now.level) }
         requires room { 0 < self.now.depth }
@@ -36,7 +34,6 @@ impl<F: Fn(Global, &mut Cursor<'_, Token>, usize, u8) -> Result<Tall, Fault> + C
     }
 
     /// `e ]` or `]`, behind `[`.
-    #[tactic(auto, using(crate::proofs::OpenedLaws::opened))]
     pub fn in_index_or_next(&self, tokens: &mut Cursor<'_, Token>) -> Result<Option<Tall>, Fault>
         requires nests { Nests self.now.depth (F.pre self.now.level) (F.post self.now.level) }
         requires room { 0 < self.now.depth }
@@ -46,7 +43,6 @@ impl<F: Fn(Global, &mut Cursor<'_, Token>, usize, u8) -> Result<Tall, Fault> + C
     }
 
     /// The items of an array, behind its bracket.
-    #[tactic(auto, using(crate::proofs::OpenedLaws::opened))]
     pub fn in_array(&self, tokens: &mut Cursor<'_, Token>, close: Sign) -> Result<Pairs, Fault>
         requires nests { Nests self.now.depth (F.pre self.now.level) (F.post self.now.level) }
         requires room { 0 < self.now.depth }
@@ -56,7 +52,6 @@ impl<F: Fn(Global, &mut Cursor<'_, Token>, usize, u8) -> Result<Tall, Fault> + C
     }
 
     /// The arguments of a call, behind `(`.
-    #[tactic(auto, using(crate::proofs::OpenedLaws::opened))]
     pub fn in_call(&self, tokens: &mut Cursor<'_, Token>) -> Result<Trees, Fault>
         requires nests { Nests self.now.depth (F.pre self.now.level) (F.post self.now.level) }
         requires room { 0 < self.now.depth }
@@ -66,7 +61,6 @@ impl<F: Fn(Global, &mut Cursor<'_, Token>, usize, u8) -> Result<Tall, Fault> + C
     }
 
     /// The operands of `isset`, behind `(`.
-    #[tactic(auto, using(crate::proofs::OpenedLaws::opened))]
     pub fn in_isset(&self, tokens: &mut Cursor<'_, Token>) -> Result<Trees, Fault>
         requires nests { Nests self.now.depth (F.pre self.now.level) (F.post self.now.level) }
         requires room { 0 < self.now.depth }
@@ -76,7 +70,6 @@ impl<F: Fn(Global, &mut Cursor<'_, Token>, usize, u8) -> Result<Tall, Fault> + C
     }
 
     /// A target, behind `++` or `--`.
-    #[tactic(auto, using(crate::proofs::OpenedLaws::opened))]
     pub fn in_step(&self, tokens: &mut Cursor<'_, Token>) -> Result<TallPlace, Fault>
         requires nests { Nests self.now.depth (F.pre self.now.level) (F.post self.now.level) }
         requires room { 0 < self.now.depth }
@@ -86,7 +79,6 @@ impl<F: Fn(Global, &mut Cursor<'_, Token>, usize, u8) -> Result<Tall, Fault> + C
     }
 
     /// The branches of a choice, behind `?`.
-    #[tactic(auto, using(crate::proofs::OpenedLaws::opened))]
     pub fn in_choice(&self, tokens: &mut Cursor<'_, Token>) -> Result<(Option<Tall>, Tall), Fault>
         requires nests { Nests self.now.depth (F.pre self.now.level) (F.post self.now.level) }
         requires room { 0 < self.now.depth }
@@ -96,7 +88,6 @@ impl<F: Fn(Global, &mut Cursor<'_, Token>, usize, u8) -> Result<Tall, Fault> + C
     }
 
     /// The branch of another `?:`, behind `?`.
-    #[tactic(auto, using(crate::proofs::OpenedLaws::opened))]
     pub fn in_otherwise(&self, tokens: &mut Cursor<'_, Token>) -> Result<Tall, Fault>
         requires nests { Nests self.now.depth (F.pre self.now.level) (F.post self.now.level) }
         requires room { 0 < self.now.depth }
@@ -106,7 +97,6 @@ impl<F: Fn(Global, &mut Cursor<'_, Token>, usize, u8) -> Result<Tall, Fault> + C
     }
 
     /// What stands in the braces of a text.
-    #[tactic(auto, using(crate::proofs::OpenedLaws::opened))]
     pub fn in_braces(&self, tokens: &mut Cursor<'_, Token>) -> Result<Tall, Fault>
         requires nests { Nests self.now.depth (F.pre self.now.level) (F.post self.now.level) }
         requires room { 0 < self.now.depth }

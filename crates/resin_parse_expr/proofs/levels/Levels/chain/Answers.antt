@@ -9,6 +9,7 @@ use Rattle.resin_grammar.specs.Operators.{level_of}
 use Rattle.resin_grammar.specs.Reading.{under, is_low}
 use Rattle.resin_grammar.specs.Signs.{is_sign}
 use Rattle.resin_parse_expr.proofs.levels.Levels.chain.Goals as goal
+use Rattle.resin_parse_expr.proofs.levels.Levels.chain.Goals.{in-Some+then-not-is_of_level, in_default}
 
 pub returns-in_err-left : goal.returns-in_err-left
 unfolding spec.chain
@@ -28,14 +29,11 @@ turns-preserved g c =
     goes_on spec.rules is_low (suc c.args.self.now.parser.depth) (λ _ t. level_of t.kind == c.args.level) (λ left t. spec.joined c.args.level left t.kind) _ c.turns.left c.turns.tokens c.turns.invariant
     c.in-Some.next.now c.skip.new.self c.joined.new.tokens c.in_ok-left.left c.skip.ensures h c.in_ok-left.ensures
 
-pub returns-then-not-is_of_level : goal.returns-then-not-is_of_level
+pub returns : goal.returns
 unfolding spec.chain
-returns-then-not-is_of_level g c =
-    ends spec.rules is_low (suc c.args.self.now.parser.depth) (λ _ t. level_of t.kind == c.args.level) (λ left t. spec.joined c.args.level left t.kind) _ c.turns.left c.turns.tokens c.turns.invariant
-    (Some c.in-Some.next.now) (search rules) (λ t e. let same : t ≡ c.in-Some.next.now = cc in rw same (search rules))
-
-pub returns-in_default : goal.returns-in_default
-unfolding spec.chain
-returns-in_default g c =
-    ends spec.rules is_low (suc c.args.self.now.parser.depth) (λ _ t. level_of t.kind == c.args.level) (λ left t. spec.joined c.args.level left t.kind) _ c.turns.left c.turns.tokens c.turns.invariant
-    None (search rules) (λ t e. cc)
+returns g c = elim c.match-peek.branch [
+    | in-Some+then-not-is_of_level w ↦ ends spec.rules is_low (suc c.args.self.now.parser.depth) (λ _ t. level_of t.kind == c.args.level) (λ left t. spec.joined c.args.level left t.kind) _ c.turns.left c.turns.tokens c.turns.invariant
+        (Some w.in-Some.next.now) (search rules) (λ t e. let same : t ≡ w.in-Some.next.now = cc in rw same (search rules))
+    | in_default w ↦ ends spec.rules is_low (suc c.args.self.now.parser.depth) (λ _ t. level_of t.kind == c.args.level) (λ left t. spec.joined c.args.level left t.kind) _ c.turns.left c.turns.tokens c.turns.invariant
+        None (search rules) (λ t e. cc)
+  ]

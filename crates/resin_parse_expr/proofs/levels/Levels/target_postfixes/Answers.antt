@@ -9,6 +9,7 @@ use Rattle.resin_grammar.specs.Operators.{level_of}
 use Rattle.resin_grammar.specs.Reading.{under, is_low}
 use Rattle.resin_grammar.specs.Signs.{is_sign}
 use Rattle.resin_parse_expr.proofs.levels.Levels.target_postfixes.Goals as goal
+use Rattle.resin_parse_expr.proofs.levels.Levels.target_postfixes.Goals.{in-Some+then-not-takes_postfix, in_default}
 
 pub returns-in_err-operand : goal.returns-in_err-operand
 unfolding spec.target_postfixes
@@ -28,14 +29,11 @@ turns-preserved g c =
     goes_on spec.rules is_low (suc c.args.self.now.parser.depth) (λ o t. spec.takes_postfix o t.kind) (λ o t. spec.operand_postfix o t.kind) _ c.turns.operand c.turns.tokens c.turns.invariant
     c.in-Some.next.now c.skip.new.self c.operand_postfix.new.tokens c.in_ok-operand.operand c.skip.ensures h c.in_ok-operand.ensures
 
-pub returns-then-not-takes_postfix : goal.returns-then-not-takes_postfix
+pub returns : goal.returns
 unfolding spec.target_postfixes
-returns-then-not-takes_postfix g c =
-    ends spec.rules is_low (suc c.args.self.now.parser.depth) (λ o t. spec.takes_postfix o t.kind) (λ o t. spec.operand_postfix o t.kind) _ c.turns.operand c.turns.tokens c.turns.invariant
-    (Some c.in-Some.next.now) (search rules) (λ t e. let same : t ≡ c.in-Some.next.now = cc in rw same (search rules))
-
-pub returns-in_default : goal.returns-in_default
-unfolding spec.target_postfixes
-returns-in_default g c =
-    ends spec.rules is_low (suc c.args.self.now.parser.depth) (λ o t. spec.takes_postfix o t.kind) (λ o t. spec.operand_postfix o t.kind) _ c.turns.operand c.turns.tokens c.turns.invariant
-    None (search rules) (λ t e. cc)
+returns g c = elim c.match-peek.branch [
+    | in-Some+then-not-takes_postfix w ↦ ends spec.rules is_low (suc c.args.self.now.parser.depth) (λ o t. spec.takes_postfix o t.kind) (λ o t. spec.operand_postfix o t.kind) _ c.turns.operand c.turns.tokens c.turns.invariant
+        (Some w.in-Some.next.now) (search rules) (λ t e. let same : t ≡ w.in-Some.next.now = cc in rw same (search rules))
+    | in_default w ↦ ends spec.rules is_low (suc c.args.self.now.parser.depth) (λ o t. spec.takes_postfix o t.kind) (λ o t. spec.operand_postfix o t.kind) _ c.turns.operand c.turns.tokens c.turns.invariant
+        None (search rules) (λ t e. cc)
+  ]

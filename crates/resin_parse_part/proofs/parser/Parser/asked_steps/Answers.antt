@@ -9,6 +9,7 @@ use Rattle.resin_grammar.specs.Operators.{level_of}
 use Rattle.resin_grammar.specs.Reading.{under, is_low}
 use Rattle.resin_grammar.specs.Signs.{is_sign}
 use Rattle.resin_parse_part.proofs.parser.Parser.asked_steps.Goals as goal
+use Rattle.resin_parse_part.proofs.parser.Parser.asked_steps.Goals.{in-Some+then-not-is_postfix, in_default}
 
 pub returns-in_err-tree : goal.returns-in_err-tree
 unfolding spec.asked_steps
@@ -28,14 +29,11 @@ turns-preserved g c =
     goes_on spec.rules is_low (suc c.args.self.now.depth) (λ _ t. spec.is_postfix t.kind) (λ e t. spec.asked_step e t.kind) _ c.turns.tree c.turns.tokens c.turns.invariant
     c.in-Some.next.now c.skip.new.self c.asked_step.new.tokens c.in_ok-tree.tree c.skip.ensures h c.in_ok-tree.ensures
 
-pub returns-then-not-is_postfix : goal.returns-then-not-is_postfix
+pub returns : goal.returns
 unfolding spec.asked_steps
-returns-then-not-is_postfix g c =
-    ends spec.rules is_low (suc c.args.self.now.depth) (λ _ t. spec.is_postfix t.kind) (λ e t. spec.asked_step e t.kind) _ c.turns.tree c.turns.tokens c.turns.invariant
-    (Some c.in-Some.next.now) (search rules) (λ t e. let same : t ≡ c.in-Some.next.now = cc in rw same (search rules))
-
-pub returns-in_default : goal.returns-in_default
-unfolding spec.asked_steps
-returns-in_default g c =
-    ends spec.rules is_low (suc c.args.self.now.depth) (λ _ t. spec.is_postfix t.kind) (λ e t. spec.asked_step e t.kind) _ c.turns.tree c.turns.tokens c.turns.invariant
-    None (search rules) (λ t e. cc)
+returns g c = elim c.match-peek.branch [
+    | in-Some+then-not-is_postfix w ↦ ends spec.rules is_low (suc c.args.self.now.depth) (λ _ t. spec.is_postfix t.kind) (λ e t. spec.asked_step e t.kind) _ c.turns.tree c.turns.tokens c.turns.invariant
+        (Some w.in-Some.next.now) (search rules) (λ t e. let same : t ≡ w.in-Some.next.now = cc in rw same (search rules))
+    | in_default w ↦ ends spec.rules is_low (suc c.args.self.now.depth) (λ _ t. spec.is_postfix t.kind) (λ e t. spec.asked_step e t.kind) _ c.turns.tree c.turns.tokens c.turns.invariant
+        None (search rules) (λ t e. cc)
+  ]

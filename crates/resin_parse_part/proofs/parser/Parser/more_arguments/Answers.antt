@@ -9,6 +9,7 @@ use Rattle.resin_grammar.specs.Operators.{level_of}
 use Rattle.resin_grammar.specs.Reading.{under, is_low}
 use Rattle.resin_grammar.specs.Signs.{is_sign}
 use Rattle.resin_parse_part.proofs.parser.Parser.more_arguments.Goals as goal
+use Rattle.resin_parse_part.proofs.parser.Parser.more_arguments.Goals.{in-Some+then-not-comma_follows, in_default}
 
 pub returns-in_err-longer : goal.returns-in_err-longer
 unfolding spec.more_arguments
@@ -28,14 +29,11 @@ turns-preserved g c =
     goes_on spec.rules is_low (suc c.args.self.now.depth) (λ done t. not done.1 && is_sign s.Comma t.kind) (λ done _. taken (spec.argument done.0)) _ (c.turns.arguments, c.turns.closed) c.turns.tokens c.turns.invariant
     c.in-Some.next.now c.skip.new.self c.argument.new.tokens (c.in_ok-longer.longer, c.in_ok-longer.ended) c.skip.ensures h c.in_ok-longer.ensures
 
-pub returns-then-not-comma_follows : goal.returns-then-not-comma_follows
+pub returns : goal.returns
 unfolding spec.more_arguments
-returns-then-not-comma_follows g c =
-    ends spec.rules is_low (suc c.args.self.now.depth) (λ done t. not done.1 && is_sign s.Comma t.kind) (λ done _. taken (spec.argument done.0)) _ (c.turns.arguments, c.turns.closed) c.turns.tokens c.turns.invariant
-    (Some c.in-Some.next.now) (search rules) (λ t e. let same : t ≡ c.in-Some.next.now = cc in rw same (search rules))
-
-pub returns-in_default : goal.returns-in_default
-unfolding spec.more_arguments
-returns-in_default g c =
-    ends spec.rules is_low (suc c.args.self.now.depth) (λ done t. not done.1 && is_sign s.Comma t.kind) (λ done _. taken (spec.argument done.0)) _ (c.turns.arguments, c.turns.closed) c.turns.tokens c.turns.invariant
-    None (search rules) (λ t e. cc)
+returns g c = elim c.match-peek.branch [
+    | in-Some+then-not-comma_follows w ↦ ends spec.rules is_low (suc c.args.self.now.depth) (λ done t. not done.1 && is_sign s.Comma t.kind) (λ done _. taken (spec.argument done.0)) _ (c.turns.arguments, c.turns.closed) c.turns.tokens c.turns.invariant
+        (Some w.in-Some.next.now) (search rules) (λ t e. let same : t ≡ w.in-Some.next.now = cc in rw same (search rules))
+    | in_default w ↦ ends spec.rules is_low (suc c.args.self.now.depth) (λ done t. not done.1 && is_sign s.Comma t.kind) (λ done _. taken (spec.argument done.0)) _ (c.turns.arguments, c.turns.closed) c.turns.tokens c.turns.invariant
+        None (search rules) (λ t e. cc)
+  ]

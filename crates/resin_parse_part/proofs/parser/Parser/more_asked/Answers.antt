@@ -9,6 +9,7 @@ use Rattle.resin_grammar.specs.Operators.{level_of}
 use Rattle.resin_grammar.specs.Reading.{under, is_low}
 use Rattle.resin_grammar.specs.Signs.{is_sign}
 use Rattle.resin_parse_part.proofs.parser.Parser.more_asked.Goals as goal
+use Rattle.resin_parse_part.proofs.parser.Parser.more_asked.Goals.{in-Some+then-not-is_sign, in_default}
 
 pub returns-in_err-operands : goal.returns-in_err-operands
 unfolding spec.more_asked
@@ -28,14 +29,11 @@ turns-preserved g c =
     goes_on spec.rules is_low (suc c.args.self.now.depth) (λ _ t. is_sign s.Comma t.kind) (λ es _. taken (spec.one_asked es)) _ c.turns.operands c.turns.tokens c.turns.invariant
     c.in-Some.next.now c.skip.new.self c.one_asked.new.tokens c.in_ok-operands.operands c.skip.ensures h c.in_ok-operands.ensures
 
-pub returns-then-not-is_sign : goal.returns-then-not-is_sign
+pub returns : goal.returns
 unfolding spec.more_asked
-returns-then-not-is_sign g c =
-    ends spec.rules is_low (suc c.args.self.now.depth) (λ _ t. is_sign s.Comma t.kind) (λ es _. taken (spec.one_asked es)) _ c.turns.operands c.turns.tokens c.turns.invariant
-    (Some c.in-Some.next.now) (search rules) (λ t e. let same : t ≡ c.in-Some.next.now = cc in rw same (search rules))
-
-pub returns-in_default : goal.returns-in_default
-unfolding spec.more_asked
-returns-in_default g c =
-    ends spec.rules is_low (suc c.args.self.now.depth) (λ _ t. is_sign s.Comma t.kind) (λ es _. taken (spec.one_asked es)) _ c.turns.operands c.turns.tokens c.turns.invariant
-    None (search rules) (λ t e. cc)
+returns g c = elim c.match-peek.branch [
+    | in-Some+then-not-is_sign w ↦ ends spec.rules is_low (suc c.args.self.now.depth) (λ _ t. is_sign s.Comma t.kind) (λ es _. taken (spec.one_asked es)) _ c.turns.operands c.turns.tokens c.turns.invariant
+        (Some w.in-Some.next.now) (search rules) (λ t e. let same : t ≡ w.in-Some.next.now = cc in rw same (search rules))
+    | in_default w ↦ ends spec.rules is_low (suc c.args.self.now.depth) (λ _ t. is_sign s.Comma t.kind) (λ es _. taken (spec.one_asked es)) _ c.turns.operands c.turns.tokens c.turns.invariant
+        None (search rules) (λ t e. cc)
+  ]

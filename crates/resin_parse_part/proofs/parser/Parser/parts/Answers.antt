@@ -9,6 +9,7 @@ use Rattle.resin_grammar.specs.Operators.{level_of}
 use Rattle.resin_grammar.specs.Reading.{under, is_low}
 use Rattle.resin_grammar.specs.Signs.{is_sign}
 use Rattle.resin_parse_part.proofs.parser.Parser.parts.Goals as goal
+use Rattle.resin_parse_part.proofs.parser.Parser.parts.Goals.{in-Some+then-not-begins_part, in_default}
 
 pub returns-in_err-parts : goal.returns-in_err-parts
 unfolding spec.parts
@@ -28,14 +29,11 @@ turns-preserved g c =
     goes_on spec.rules is_low (suc c.args.self.now.depth) (λ _ t. spec.begins_part t.kind) (λ es t. spec.part_after es t.kind) _ c.turns.parts c.turns.tokens c.turns.invariant
     c.in-Some.next.now c.skip.new.self c.part_after.new.tokens c.in_ok-parts.parts c.skip.ensures h c.in_ok-parts.ensures
 
-pub returns-then-not-begins_part : goal.returns-then-not-begins_part
+pub returns : goal.returns
 unfolding spec.parts
-returns-then-not-begins_part g c =
-    ends spec.rules is_low (suc c.args.self.now.depth) (λ _ t. spec.begins_part t.kind) (λ es t. spec.part_after es t.kind) _ c.turns.parts c.turns.tokens c.turns.invariant
-    (Some c.in-Some.next.now) (search rules) (λ t e. let same : t ≡ c.in-Some.next.now = cc in rw same (search rules))
-
-pub returns-in_default : goal.returns-in_default
-unfolding spec.parts
-returns-in_default g c =
-    ends spec.rules is_low (suc c.args.self.now.depth) (λ _ t. spec.begins_part t.kind) (λ es t. spec.part_after es t.kind) _ c.turns.parts c.turns.tokens c.turns.invariant
-    None (search rules) (λ t e. cc)
+returns g c = elim c.match-peek.branch [
+    | in-Some+then-not-begins_part w ↦ ends spec.rules is_low (suc c.args.self.now.depth) (λ _ t. spec.begins_part t.kind) (λ es t. spec.part_after es t.kind) _ c.turns.parts c.turns.tokens c.turns.invariant
+        (Some w.in-Some.next.now) (search rules) (λ t e. let same : t ≡ w.in-Some.next.now = cc in rw same (search rules))
+    | in_default w ↦ ends spec.rules is_low (suc c.args.self.now.depth) (λ _ t. spec.begins_part t.kind) (λ es t. spec.part_after es t.kind) _ c.turns.parts c.turns.tokens c.turns.invariant
+        None (search rules) (λ t e. cc)
+  ]
