@@ -1,0 +1,5 @@
+pub mod Stages
+pub mod Writes
+pub mod Lines
+pub mod Ties
+pub mod Buffered
