@@ -32,8 +32,8 @@ turns-preserved g c =
 pub returns : goal.returns
 unfolding spec.shorts
 returns g c = elim c.match-peek.branch [
-    | in-Some+then-not-is_sign w ↦ ends spec.rules is_low (suc c.args.self.now.parser.depth) (λ _ t. is_sign s.Question t.kind) (λ test _. spec.otherwise test) _ c.turns.test c.turns.tokens c.turns.invariant
-        (Some w.in-Some.next.now) (search rules) (λ t e. let same : t ≡ w.in-Some.next.now = cc in rw same (search rules))
-    | in_default w ↦ ends spec.rules is_low (suc c.args.self.now.parser.depth) (λ _ t. is_sign s.Question t.kind) (λ test _. spec.otherwise test) _ c.turns.test c.turns.tokens c.turns.invariant
-        None (search rules) (λ t e. cc)
-  ]
+  | in-Some+then-not-is_sign w ↦ ends spec.rules is_low (suc c.args.self.now.parser.depth) (λ _ t. is_sign s.Question t.kind) (λ test _. spec.otherwise test) _ c.turns.test c.turns.tokens c.turns.invariant
+      (Some w.in-Some.next.now) (search rules) (λ t e. let same : t ≡ w.in-Some.next.now = cc in rw same (search rules))
+  | in_default w ↦ ends spec.rules is_low (suc c.args.self.now.parser.depth) (λ _ t. is_sign s.Question t.kind) (λ test _. spec.otherwise test) _ c.turns.test c.turns.tokens c.turns.invariant
+      None (search rules) (λ t e. cc)
+]

@@ -32,8 +32,8 @@ turns-preserved g c =
 pub returns : goal.returns
 unfolding spec.target_postfixes
 returns g c = elim c.match-peek.branch [
-    | in-Some+then-not-takes_postfix w ↦ ends spec.rules is_low (suc c.args.self.now.parser.depth) (λ o t. spec.takes_postfix o t.kind) (λ o t. spec.operand_postfix o t.kind) _ c.turns.operand c.turns.tokens c.turns.invariant
-        (Some w.in-Some.next.now) (search rules) (λ t e. let same : t ≡ w.in-Some.next.now = cc in rw same (search rules))
-    | in_default w ↦ ends spec.rules is_low (suc c.args.self.now.parser.depth) (λ o t. spec.takes_postfix o t.kind) (λ o t. spec.operand_postfix o t.kind) _ c.turns.operand c.turns.tokens c.turns.invariant
-        None (search rules) (λ t e. cc)
-  ]
+  | in-Some+then-not-takes_postfix w ↦ ends spec.rules is_low (suc c.args.self.now.parser.depth) (λ o t. spec.takes_postfix o t.kind) (λ o t. spec.operand_postfix o t.kind) _ c.turns.operand c.turns.tokens c.turns.invariant
+      (Some w.in-Some.next.now) (search rules) (λ t e. let same : t ≡ w.in-Some.next.now = cc in rw same (search rules))
+  | in_default w ↦ ends spec.rules is_low (suc c.args.self.now.parser.depth) (λ o t. spec.takes_postfix o t.kind) (λ o t. spec.operand_postfix o t.kind) _ c.turns.operand c.turns.tokens c.turns.invariant
+      None (search rules) (λ t e. cc)
+]

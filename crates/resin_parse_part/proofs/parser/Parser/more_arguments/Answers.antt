@@ -32,8 +32,8 @@ turns-preserved g c =
 pub returns : goal.returns
 unfolding spec.more_arguments
 returns g c = elim c.match-peek.branch [
-    | in-Some+then-not-comma_follows w ↦ ends spec.rules is_low (suc c.args.self.now.depth) (λ done t. not done.1 && is_sign s.Comma t.kind) (λ done _. taken (spec.argument done.0)) _ (c.turns.arguments, c.turns.closed) c.turns.tokens c.turns.invariant
-        (Some w.in-Some.next.now) (search rules) (λ t e. let same : t ≡ w.in-Some.next.now = cc in rw same (search rules))
-    | in_default w ↦ ends spec.rules is_low (suc c.args.self.now.depth) (λ done t. not done.1 && is_sign s.Comma t.kind) (λ done _. taken (spec.argument done.0)) _ (c.turns.arguments, c.turns.closed) c.turns.tokens c.turns.invariant
-        None (search rules) (λ t e. cc)
-  ]
+  | in-Some+then-not-comma_follows w ↦ ends spec.rules is_low (suc c.args.self.now.depth) (λ done t. not done.1 && is_sign s.Comma t.kind) (λ done _. taken (spec.argument done.0)) _ (c.turns.arguments, c.turns.closed) c.turns.tokens c.turns.invariant
+      (Some w.in-Some.next.now) (search rules) (λ t e. let same : t ≡ w.in-Some.next.now = cc in rw same (search rules))
+  | in_default w ↦ ends spec.rules is_low (suc c.args.self.now.depth) (λ done t. not done.1 && is_sign s.Comma t.kind) (λ done _. taken (spec.argument done.0)) _ (c.turns.arguments, c.turns.closed) c.turns.tokens c.turns.invariant
+      None (search rules) (λ t e. cc)
+]
