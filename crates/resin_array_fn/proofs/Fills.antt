@@ -1,0 +1,80 @@
+-- Arrays that are made of entries, one after the other.
+use Rattle.std.proofs.Common.{◌≡◌, ℕ, ◌+◌, ◌-◌, ◌<◌, ◌≤◌, zero, suc, Bool, false, List, [], ◌∷◌, ◌++◌, refl, sym, ap, ◌∙◌, arith, length, take, drop, get_or, slice_get, Option, Some, None, Result, Ok, Err, append_assoc, subst}
+use Rattle.std.specs.Prelude.{map, reverse, is_some, IsTrue}
+use Rattle.std.specs.List.{slice_range}
+use Rattle.std.proofs.lemmas.Bool.{true≢false, cond-true, cond-false, le-leb, lt-leb}
+use Rattle.std.proofs.lemmas.List.{reverse-append, take_more, drop_all, take_all}
+use Rattle.std.proofs.lemmas.Option.{slice_get_within, get_or_from_slice_get}
+use Rattle.resin_lstr.specs.Texts.{Text as LabelledText}
+use Rattle.resin_scalar.specs.declared.faults.CallStop.{CallStop}
+use Rattle.resin_scalar.specs.declared.faults.CallStop.TheVariants.{Throw, Fault, Memory}
+use Rattle.resin_scalar.specs.declared.faults.ScriptFault.TheVariants.{ArrayTooDeep}
+use Rattle.resin_value.specs.declared.key.Key.{Key}
+use Rattle.resin_value.specs.Keys.{is_lawful}
+use Rattle.resin_value.specs.Trees.{Tree}
+use Rattle.resin_value.specs.Arrays.{EntryList, Array}
+use Rattle.resin_value.specs.Changes.{AreLawful}
+use Rattle.resin_value.proofs.Compared.{drop_at}
+use Rattle.resin_ops.specs.Conversions.{text_of}
+use Rattle.resin_text_fn.specs.Stops.{GivesOrNoMemory}
+use Rattle.resin_array_fn.specs.Filled.{and_then, low_enough, Addition, added_at, filled_on, in_order, kept_key, with_kept_keys}
+use Rattle.resin_array_fn.specs.Rows.{texts_in}
+
+-- ---- answers carried on
+pub stop_passes : {X Y : Type 0} (stop : CallStop) (r : Result X CallStop) (f : X → Result Y CallStop) → GivesOrNoMemory (Err stop) r → GivesOrNoMemory (Err stop) (and_then r f)
+stop_passes (Throw kind) r f h = ap (λ q. and_then q f) h
+stop_passes (Fault fault) r f h = ap (λ q. and_then q f) h
+stop_passes Memory r f h = tt
+
+pub stop_same : {X : Type 0} (stop : CallStop) (r s : Result X CallStop) → r ≡ s → GivesOrNoMemory (Err stop) r → GivesOrNoMemory (Err stop) s
+stop_same (Throw kind) r s e h = sym e ∙ h
+stop_same (Fault fault) r s e h = sym e ∙ h
+stop_same Memory r s e h = tt
+
+pub goes_on : {X Y : Type 0} (r : Result X CallStop) (f : X → Result Y CallStop) (x : X) → r ≡ Ok x → and_then r f ≡ f x
+goes_on r f x h = ap (λ q. and_then q f) h
+
+-- ---- heights
+pub low_is : (a : Array) → a.height ≤ 100 → low_enough a ≡ Ok a
+low_is a h = cond-true _ _ _ (le-leb a.height 100 h)
+
+pub low_not : (a : Array) → 100 < a.height → low_enough a ≡ Err (Fault ArrayTooDeep)
+low_not a h = cond-false _ _ _ (lt-leb a.height 100 h)
+
+-- ---- one more value
+module _ (a : Array) (o : Option Key) (t : Tree) (es : List Addition) (whole : Result Array CallStop) (so_far : filled_on a ((o, t) ∷ es) ≡ whole) where
+  pub addition_stops : (stop : CallStop) → GivesOrNoMemory (Err stop) (added_at o t a) → GivesOrNoMemory (Err stop) whole
+  addition_stops stop h = stop_same stop _ whole so_far (stop_passes stop (added_at o t a) (λ b. filled_on b es) h)
+
+  pub addition_goes : (b : Array) → added_at o t a ≡ Ok b → filled_on b es ≡ whole
+  addition_goes b h = sym (goes_on (added_at o t a) (λ c. filled_on c es) b h) ∙ so_far
+
+-- ---- parts of lists
+pub slice_more : {X : Type 0} (es : List X) (i to : ℕ) (e : X) → slice_get es i ≡ Some e → i < to → slice_range es i to ≡ e ∷ slice_range es (i + 1) to
+slice_more es i to e here lt =
+    let n : to - i ≡ suc (to - (i + 1)) = omega arith in
+    λ q. take (n q) (drop_at es i e here q)
+
+pub slice_end : {X : Type 0} (es : List X) (i to : ℕ) → to ≤ i → slice_range es i to ≡ []
+slice_end es i to h = let n : to - i ≡ 0 = omega arith in ap (λ k. take k (drop i es)) n
+
+pub slice_whole : {X : Type 0} (es : List X) (n : ℕ) → n ≡ length es → slice_range es 0 n ≡ es
+slice_whole es n e = let m : n - 0 ≡ length es = omega arith in ap (λ k. take k es) m ∙ take_all (length es) es (omega arith)
+
+pub backwards_more : {X : Type 0} (es : List X) (left next : ℕ) (e : X) → left ≡ next + 1 → slice_get es next ≡ Some e → reverse (take left es) ≡ e ∷ reverse (take next es)
+backwards_more es left next e is here =
+    ap (λ n. reverse (take n es)) is
+    ∙ ap reverse (take_more es next e (slice_get_within es next e here))
+    ∙ ap (λ x. reverse (take next es ++ x ∷ [])) (get_or_from_slice_get es next e e here)
+    ∙ reverse-append (take next es) (e ∷ [])
+
+-- ---- keys that may stand in an array
+pub lawful_at : (es : EntryList) (i : ℕ) (k : Key) (t : Tree) → AreLawful es → slice_get es i ≡ Some (k, t) → IsTrue (is_lawful k)
+lawful_at [] i k t h here = absurd (true≢false (sym (ap is_some here)))
+lawful_at (e ∷ es) zero k t h here = let same : e ≡ (k, t) = cc in subst (λ (p : Key × Tree). IsTrue (is_lawful p.0)) same h.0
+lawful_at (e ∷ es) (suc i) k t h here = lawful_at es i k t h.1 here
+
+-- ---- texts one after the other
+pub text_more : (x : LabelledText) (xs : List LabelledText) (r : Result (List LabelledText) CallStop) → and_then (and_then r (λ ys. Ok (x ∷ ys))) (λ ys. Ok (xs ++ ys)) ≡ and_then r (λ ys. Ok ((xs ++ x ∷ []) ++ ys))
+text_more x xs (Ok ys) = ap Ok (sym (append_assoc xs (x ∷ []) ys))
+text_more x xs (Err stop) = refl
