@@ -3,7 +3,7 @@ ghost use Rattle.resin_text_fn.specs.Stops.{GivesOrNoMemory};
 ghost use Rattle.resin_array_fn.specs.Rows.{values, texts_in, list_of_texts};
 
 use crate::fill::with_next;
-use resin_lstr::Texts;
+use resin_lstr::{LText, Texts};
 use resin_ops::to_text;
 use resin_scalar::CallStop;
 use resin_value::{Arr, Value};
@@ -25,8 +25,15 @@ pub fn texts_in(alloc: Global, a: &Arr) -> Result<Texts, CallStop>
 pub fn list_of_texts(alloc: Global, texts: &Texts) -> Result<Arr, CallStop>
     ensures { GivesOrNoMemory result (list_of_texts texts.now) }
 {
+    list_of(alloc, texts.as_slice())
+}
+
+// The array that has these texts as its values.
+fn list_of(alloc: Global, texts: &[LText]) -> Result<Arr, CallStop>
+    ensures { GivesOrNoMemory result (list_of_texts texts.now) }
+{
     let mut out = Arr::new(alloc)?;
-    for text in texts.as_slice() {
+    for text in texts {
         out = with_next(out, Value::Text(text.clone()?))?;
     }
     Ok(out)

@@ -45,3 +45,9 @@ pub exit : {X Y : Type 0} (stop : CallStop) (r : Result X CallStop) (f : X → R
 exit (Throw kind) r f h = ap (λ q. and_then q f) h
 exit (Fault fault) r f h = ap (λ q. and_then q f) h
 exit Memory r f h = tt
+
+-- a stop stands for itself
+pub gives_self : {X : Type 0} (stop : CallStop) → GivesOrNoMemory {X = X} (Err stop) (Err stop)
+gives_self (Throw kind) = refl
+gives_self (Fault fault) = refl
+gives_self Memory = tt

@@ -54,11 +54,18 @@ fn as_count(value: &Value) -> Result<Option<i64>, CallStop>
     }
 }
 
+// The argument at a place, none where it is left out.
+fn nth(args: &[Value], i: usize) -> Option<&Value>
+    ensures { option_map (λ v. tree_of v.now) result ≡ slice_get (trees_of args.now) i }
+{
+    args.get(i)
+}
+
 // The text at a place.
 pub(crate) fn text_at(args: &[Value], i: usize) -> Result<&LText, CallStop>
     ensures { MatchResult result (λ t. text_at (trees_of args.now) i ≡ Ok t.now) (λ stop. text_at (trees_of args.now) i ≡ Err stop) }
 {
-    match args.get(i) {
+    match nth(args, i) {
         Some(value) => as_text(value),
         None => Err(CallStop::Throw(ErrorKind::Type)),
     }
@@ -72,7 +79,7 @@ pub(crate) fn text_or<'a>(
 ) -> Result<&'a LText, CallStop>
     ensures { MatchResult result (λ t. or_default as_text other.now (slice_get (trees_of args.now) i) ≡ Ok t.now) (λ stop. or_default as_text other.now (slice_get (trees_of args.now) i) ≡ Err stop) }
 {
-    match args.get(i) {
+    match nth(args, i) {
         Some(value) => as_text(value),
         None => Ok(other),
     }
@@ -82,7 +89,7 @@ pub(crate) fn text_or<'a>(
 pub(crate) fn number_at(args: &[Value], i: usize) -> Result<i64, CallStop>
     ensures { result ≡ number_at (trees_of args.now) i }
 {
-    match args.get(i) {
+    match nth(args, i) {
         Some(value) => as_number(value),
         None => Err(CallStop::Throw(ErrorKind::Type)),
     }
@@ -92,7 +99,7 @@ pub(crate) fn number_at(args: &[Value], i: usize) -> Result<i64, CallStop>
 pub(crate) fn number_or(args: &[Value], i: usize, other: i64) -> Result<i64, CallStop>
     ensures { result ≡ or_default as_number other (slice_get (trees_of args.now) i) }
 {
-    match args.get(i) {
+    match nth(args, i) {
         Some(value) => as_number(value),
         None => Ok(other),
     }
@@ -102,7 +109,7 @@ pub(crate) fn number_or(args: &[Value], i: usize, other: i64) -> Result<i64, Cal
 pub(crate) fn array_at(args: &[Value], i: usize) -> Result<&Arr, CallStop>
     ensures { MatchResult result (λ a. array_at (trees_of args.now) i ≡ Ok a.now) (λ stop. array_at (trees_of args.now) i ≡ Err stop) }
 {
-    match args.get(i) {
+    match nth(args, i) {
         Some(value) => as_array(value),
         None => Err(CallStop::Throw(ErrorKind::Type)),
     }
@@ -112,7 +119,7 @@ pub(crate) fn array_at(args: &[Value], i: usize) -> Result<&Arr, CallStop>
 pub(crate) fn value_at(args: &[Value], i: usize) -> Result<&Value, CallStop>
     ensures { MatchResult result (λ v. value_at (trees_of args.now) i ≡ Ok (tree_of v.now)) (λ stop. value_at (trees_of args.now) i ≡ Err stop) }
 {
-    match args.get(i) {
+    match nth(args, i) {
         Some(value) => Ok(value),
         None => Err(CallStop::Throw(ErrorKind::Type)),
     }
@@ -122,7 +129,7 @@ pub(crate) fn value_at(args: &[Value], i: usize) -> Result<&Value, CallStop>
 pub(crate) fn count_at(args: &[Value], i: usize) -> Result<Option<i64>, CallStop>
     ensures { result ≡ count_at (trees_of args.now) i }
 {
-    match args.get(i) {
+    match nth(args, i) {
         Some(value) => as_count(value),
         None => Ok(None),
     }
@@ -132,7 +139,7 @@ pub(crate) fn count_at(args: &[Value], i: usize) -> Result<Option<i64>, CallStop
 pub(crate) fn flag_at(args: &[Value], i: usize) -> bool
     ensures { result ≡ flag_at (trees_of args.now) i }
 {
-    match args.get(i) {
+    match nth(args, i) {
         Some(value) => value.truth(),
         None => false,
     }

@@ -41,8 +41,13 @@ fn format_arguments(
     ensures { GivesOrNoMemory result (format_arguments kinds.now (trees_of args.now)) }
 {
     let mut out = FormatArgs::new(alloc);
-    for (kind, value) in kinds.iter().zip(args) {
+    let mut rest = args;
+    for kind in kinds {
+        let [value, others @ ..] = rest else {
+            return Ok(out);
+        };
         out.push(format_argument(alloc, *kind, value)?)?;
+        rest = others;
     }
     Ok(out)
 }

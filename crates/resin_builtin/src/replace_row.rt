@@ -77,7 +77,7 @@ fn copies(alloc: Global, text: &LText, count: usize) -> Result<Texts, AllocError
     ensures { IfOk result (λ texts. texts ≡ replicate count text.now) }
 {
     let mut texts = Texts::new(alloc);
-    for _ in 0..count {
+    for _made in 0..count {
         texts.push(text.clone()?)?;
     }
     Ok(texts)

@@ -4,7 +4,9 @@ ghost use Rattle.resin_ops.specs.Places.{seen_answer};
 ghost use Rattle.resin_text_fn.specs.Stops.{GivesOrNoMemory};
 ghost use Rattle.resin_builtin.specs.Arguments.{text_at};
 ghost use Rattle.resin_array_fn.specs.Filled.{and_then};
-ghost use Rattle.std.specs.Prelude.{Ok};
+ghost use Rattle.std.specs.Prelude.{◌≡◌, Ok, IfOk};
+ghost use Rattle.resin_label.specs.Sets.{empty};
+ghost use Rattle.resin_lstr.specs.Texts.{carrying};
 ghost use Rattle.resin_builtin.specs.Rows.{trimmed, one_text_row, digest_row, two_text_row, trim_row, substr_row, strpos_row, str_repeat_row, implode_row, str_pad_row};
 
 use crate::answers::{array_value, bool_value, number_value, place_value, text_value};
@@ -13,7 +15,7 @@ use crate::builtin::{Digest, OneText, TrimSide, TwoTexts};
 use resin_array_fn::{list_of_texts, texts_in};
 use resin_escape_fn::{
     addslashes, bin2hex, htmlspecialchars, md5, nl2br, ord, rawurlencode, sha1, sql_quote,
-    text_answer, urlencode,
+    urlencode,
 };
 use resin_label::PSet;
 use resin_lstr::LText;
@@ -24,7 +26,7 @@ use resin_text_fn::{
     substr_count, trim, ucfirst,
 };
 use resin_value::Value;
-use std::alloc::Global;
+use std::alloc::{AllocError, Global};
 
 // A function of one text.
 pub(crate) fn one_text_row(alloc: Global, row: OneText, s: &LText) -> Result<Value, CallStop>
@@ -97,10 +99,21 @@ fn explode_row(alloc: Global, separator: &LText, s: &LText) -> Result<Value, Cal
     array_value(list_of_texts(alloc, &pieces))
 }
 
+// A short text without labels.
+fn plain(alloc: Global, bytes: &[u8]) -> Result<LText, AllocError>
+    ensures { IfOk result (λ text. text ≡ carrying empty bytes.now) }
+{
+    match LText::plain(alloc, bytes) {
+        Ok(text) => Ok(text),
+        // Those that are left out are far from too long.
+        Err(_) => Err(AllocError),
+    }
+}
+
 pub(crate) fn trim_row(alloc: Global, side: TrimSide, args: &[Value]) -> Result<Value, CallStop>
     ensures { GivesOrNoMemory (seen_answer result) (trim_row side (trees_of args.now)) }
 {
-    let blanks = text_answer(LText::plain(alloc, b" \n\r\t\x0b\0"))?;
+    let blanks = plain(alloc, b" \n\r\t\x0b\0")?;
     let s = text_at(args, 0)?;
     let chars = text_or(args, 1, &blanks)?;
     text_value(trimmed(alloc, side, s, chars))
@@ -154,7 +167,7 @@ pub(crate) fn implode_row(alloc: Global, args: &[Value]) -> Result<Value, CallSt
 pub(crate) fn str_pad_row(alloc: Global, args: &[Value]) -> Result<Value, CallStop>
     ensures { GivesOrNoMemory (seen_answer result) (str_pad_row (trees_of args.now)) }
 {
-    let space = text_answer(LText::plain(alloc, b" "))?;
+    let space = plain(alloc, b" ")?;
     let s = text_at(args, 0)?;
     let width = number_at(args, 1)?;
     let padding = text_or(args, 2, &space)?;
