@@ -1,5 +1,5 @@
 -- The array functions (PHP manual, "Array Functions", in this project's profile), over the entries of arrays in their order.
-use Rattle.std.specs.Prelude.{ℤ, pos, ◌≡◌, Bool, false, List, [], ◌∷◌, map, reverse, length, Option, Result, Ok, Err}
+use Rattle.std.specs.Prelude.{ℤ, pos, Bool, false, List, [], ◌∷◌, map, reverse, length, Option, Result, Ok, Err}
 use Rattle.std.specs.List.{slice_range}
 use Rattle.resin_label.specs.Sets.{empty as no_labels}
 use Rattle.resin_lstr.specs.Texts.{Text as LabelledText, carrying}

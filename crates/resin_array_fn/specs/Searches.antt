@@ -1,12 +1,10 @@
 -- Searches in arrays (PHP manual, "in_array" and "array_key_exists").
-use Rattle.std.specs.Prelude.{ℕ, Bool, true, false, is_some, List, [], ◌∷◌, Result, Ok, Err}
-use Rattle.resin_scalar.specs.declared.ticks.Spent.{Spent}
+use Rattle.std.specs.Prelude.{ℕ, Bool, true, false, is_some, [], ◌∷◌, Result, Ok, Err}
 use Rattle.resin_scalar.specs.declared.faults.CallStop.{CallStop}
 use Rattle.resin_scalar.specs.declared.faults.CallStop.TheVariants.{Fault}
 use Rattle.resin_scalar.specs.declared.faults.ScriptFault.TheVariants.{FuelSpent, FloatNeeded, BadOperand, ObjectComparison}
 use Rattle.resin_value.specs.declared.compare.CompareFault.{CompareFault}
 use Rattle.resin_value.specs.declared.compare.CompareFault.TheVariants.{Object, Operand, Float, Spent as NoTick}
-use Rattle.resin_value.specs.declared.key.Key.{Key}
 use Rattle.resin_value.specs.Trees.{Tree}
 use Rattle.resin_value.specs.Arrays.{EntryList, Array}
 use Rattle.resin_value.specs.Changes.{lookup}

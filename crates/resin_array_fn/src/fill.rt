@@ -44,12 +44,7 @@ pub(crate) fn with_next(out: Arr, value: Value) -> Result<Arr, CallStop>
 }
 
 /// The array with one more entry, whose integer key is numbered anew unless `keep`.
-pub(crate) fn with_entry(
-    out: Arr,
-    key: &Key,
-    value: Value,
-    keep: bool,
-) -> Result<Arr, CallStop>
+pub(crate) fn with_entry(out: Arr, key: &Key, value: Value, keep: bool) -> Result<Arr, CallStop>
     requires { IsTrue (is_lawful key.now) }
     ensures { GivesOrNoMemory result (added_at (kept_key keep key.now) (tree_of value) out) }
 {

@@ -1,4 +1,4 @@
-use Rattle.std.proofs.Common.{◌+◌, drop, ap}
+use Rattle.std.proofs.Common.{◌+◌, drop}
 use Rattle.std.specs.Prelude.{map, None}
 use Rattle.std.proofs.lemmas.Result.{err_from_is_err_and}
 use Rattle.resin_value.specs.Seen.{tree_of}
