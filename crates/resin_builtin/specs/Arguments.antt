@@ -6,7 +6,7 @@ use Rattle.resin_lstr.specs.Texts.{Text as LabelledText}
 use Rattle.resin_scalar.specs.declared.faults.CallStop.{CallStop}
 use Rattle.resin_scalar.specs.declared.faults.CallStop.TheVariants.{Throw}
 use Rattle.resin_scalar.specs.declared.faults.ErrorKind.TheVariants.{«Type» as TypeError}
-use Rattle.resin_value.specs.Trees.{Tree, null, boolean, integer, text, array, object}
+use Rattle.resin_value.specs.Trees.{Tree, null, integer, text, array}
 use Rattle.resin_value.specs.Arrays.{Array, entries_of}
 use Rattle.resin_value.specs.Compare.{is_true}
 

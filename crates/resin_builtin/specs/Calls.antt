@@ -1,22 +1,19 @@
 -- Calls of builtin functions, with what they cost.
 use Rattle.std.specs.Prelude.{ℕ, ◌-◌, ◌/◌, nat_lt, Bool, true, false, not, if◌then◌else◌, List, [], ◌∷◌, map, replicate, length, sum_by, Option, Some, None, Result, Ok, Err}
-use Rattle.std.specs.List.{slice_get}
 use Rattle.resin_label.specs.Sets.{NumberSet}
 use Rattle.resin_lstr.specs.Texts.{Text as LabelledText}
 use Rattle.resin_scalar.specs.declared.faults.CallStop.{CallStop}
 use Rattle.resin_scalar.specs.declared.faults.CallStop.TheVariants.{Throw, Fault}
 use Rattle.resin_scalar.specs.declared.faults.ErrorKind.TheVariants.{«Type» as TypeError, ArgumentCount}
 use Rattle.resin_scalar.specs.declared.faults.ScriptFault.TheVariants.{FuelSpent, UndefinedFunction}
-use Rattle.resin_value.specs.Trees.{Tree, null, boolean, integer, text, array, object}
-use Rattle.resin_value.specs.Arrays.{Array, entries_of}
+use Rattle.resin_value.specs.Trees.{Tree, boolean, text, array, object}
+use Rattle.resin_value.specs.Arrays.{entries_of}
 use Rattle.resin_ops.specs.Conversions.{text_of}
 use Rattle.resin_text_fn.specs.Rows as texts
 use Rattle.resin_array_fn.specs.Rows as arrays
 use Rattle.resin_array_fn.specs.Searches as searches
-use Rattle.resin_array_fn.specs.Filled.{and_then}
 use Rattle.resin_builtin.specs.declared.builtin.Builtin.{Builtin}
 use Rattle.resin_builtin.specs.declared.builtin.Builtin.TheVariants.{StrReplace, InArray}
-use Rattle.resin_builtin.specs.Names.{builtin_named}
 use Rattle.resin_builtin.specs.Signatures.{sig_of, is_count}
 use Rattle.resin_builtin.specs.Arguments.{text_at, array_at, value_at, flag_at}
 use Rattle.resin_builtin.specs.Rows.{mapped, is_array, row_of_builtin}

@@ -1,5 +1,5 @@
 -- The builtin functions, each from its arguments to a value, a throw or a fault.
-use Rattle.std.specs.Prelude.{ℕ, ℤ, pos, negsuc, ◌≡◌, ◌+ℤ◌, ◌-ℤ◌, Bool, true, false, not, if◌then◌else◌, List, [], ◌∷◌, map, replicate, length, codes, Option, Some, None, Result, Ok, Err, int_div}
+use Rattle.std.specs.Prelude.{ℤ, pos, ◌-ℤ◌, Bool, true, false, if◌then◌else◌, List, [], ◌∷◌, length, codes, Option, Some, None, Result, Ok, Err, int_div}
 use Rattle.std.specs.Ordering.{int_eq}
 use Rattle.std.specs.Int.{is_negative}
 use Rattle.std.specs.List.{slice_get}
@@ -10,7 +10,7 @@ use Rattle.resin_bytes.specs.declared.number.NumberForm.TheVariants.{Int as IntF
 use Rattle.resin_bytes.specs.Numbers.{numeric_form}
 use Rattle.resin_scalar.specs.declared.faults.CallStop.{CallStop}
 use Rattle.resin_scalar.specs.declared.faults.CallStop.TheVariants.{Throw, Fault}
-use Rattle.resin_scalar.specs.declared.faults.ErrorKind.TheVariants.{«Type» as TypeError, DivisionByZero, Arithmetic}
+use Rattle.resin_scalar.specs.declared.faults.ErrorKind.TheVariants.{DivisionByZero, Arithmetic}
 use Rattle.resin_scalar.specs.declared.faults.ScriptFault.{ScriptFault}
 use Rattle.resin_scalar.specs.declared.faults.ScriptFault.TheVariants.{IntegerOverflow, UndefinedFunction}
 use Rattle.resin_value.specs.Trees.{Tree, null, boolean, integer, text, array, object}
@@ -33,7 +33,7 @@ use Rattle.resin_array_fn.specs.Filled.{and_then}
 use Rattle.resin_array_fn.specs.Rows as arrays
 use Rattle.resin_array_fn.specs.Searches as searches
 use Rattle.resin_builtin.specs.declared.builtin.Builtin.{Builtin}
-use Rattle.resin_builtin.specs.declared.builtin.Builtin.TheVariants.{OneText, Digest, TwoTexts, Trim, OneInteger, Test, OneArray, Substr, Strpos, StrReplace, StrRepeat, Implode, StrPad, Sprintf, Intval, Intdiv, GetClass, ArrayMerge, ArraySlice, ArrayReverse, InArray, ArrayKeyExists}
+use Rattle.resin_builtin.specs.declared.builtin.Builtin.TheVariants.{OneText, Digest, TwoTexts, Trim, OneInteger, Test, OneArray, Substr, Strpos, StrRepeat, Implode, StrPad, Sprintf, Intval, Intdiv, ArrayMerge, ArraySlice, ArrayReverse, ArrayKeyExists}
 use Rattle.resin_builtin.specs.declared.builtin.OneText.{OneText as TextRow}
 use Rattle.resin_builtin.specs.declared.builtin.OneText.TheVariants.{Length, UpperCase, LowerCase, UpperFirst, Reversed, HtmlEscaped, Slashed, SqlQuoted, UrlEncoded, RawUrlEncoded, WithBreaks, Hexadecimal as HexadecimalRow, FirstByte, Itself}
 use Rattle.resin_builtin.specs.declared.builtin.Digest.{Digest as DigestRow}

@@ -3,9 +3,9 @@ use Rattle.std.specs.Prelude.{ℕ, ◌+◌, Bool, true, false, ◌==◌, ◌&&�
 use Rattle.std.specs.List.{slice_get}
 use Rattle.resin_builtin.specs.declared.builtin.Builtin.{Builtin}
 use Rattle.resin_builtin.specs.declared.builtin.Builtin.TheVariants.{OneText, Digest, TwoTexts, Trim, OneInteger, Test, OneArray, Substr, Strpos, StrReplace, StrRepeat, Implode, StrPad, Sprintf, Intval, Intdiv, GetClass, ArrayMerge, ArraySlice, ArrayReverse, InArray, ArrayKeyExists}
-use Rattle.resin_builtin.specs.declared.signature.ArgKind.{ArgKind}
-use Rattle.resin_builtin.specs.declared.signature.ArgKind.TheVariants.{Text, Integer, Array, Any}
-use Rattle.resin_builtin.specs.declared.signature.Sig.{Sig}
+use Rattle.resin_builtin.specs.declared.signatures.ArgKind.{ArgKind}
+use Rattle.resin_builtin.specs.declared.signatures.ArgKind.TheVariants.{Text, Integer, Array, Any}
+use Rattle.resin_builtin.specs.declared.signatures.Sig.{Sig}
 
 -- the arguments that must stand, those that may be left out, and those that may follow
 pub record Parameters : Type 0 where

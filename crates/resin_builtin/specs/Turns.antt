@@ -1,8 +1,7 @@
 -- How an argument is turned into its kind before a call.
 use Rattle.std.specs.Prelude.{Bool, true, false, ℤ, Result, Ok, Err}
-use Rattle.resin_label.specs.Sets.{empty}
 use Rattle.resin_lstr.specs.Texts.{bytes_of}
-use Rattle.resin_scalar.specs.Scalars.{Plain, number_of, text as plain_text}
+use Rattle.resin_scalar.specs.Scalars.{number_of, text as plain_text}
 use Rattle.resin_scalar.specs.declared.scalar.NumFault.{NumFault}
 use Rattle.resin_scalar.specs.declared.scalar.NumFault.TheVariants.{Float, Not}
 use Rattle.resin_scalar.specs.declared.faults.CallStop.{CallStop}
@@ -12,8 +11,8 @@ use Rattle.resin_scalar.specs.declared.faults.ScriptFault.TheVariants.{FloatNeed
 use Rattle.resin_value.specs.Trees.{Tree, null, boolean, integer, text, array, object}
 use Rattle.resin_ops.specs.Conversions.{text_of}
 use Rattle.resin_scalar.specs.Scalars.{one_of}
-use Rattle.resin_builtin.specs.declared.signature.ArgKind.{ArgKind}
-use Rattle.resin_builtin.specs.declared.signature.ArgKind.TheVariants.{Text, Integer, Array, Any}
+use Rattle.resin_builtin.specs.declared.signatures.ArgKind.{ArgKind}
+use Rattle.resin_builtin.specs.declared.signatures.ArgKind.TheVariants.{Text, Integer, Array, Any}
 use Rattle.resin_builtin.specs.Rows.{mapped, number}
 
 -- a text by the text rule; arrays and objects throw TypeError

@@ -33,11 +33,7 @@ fn behind_first(args: &[Value]) -> &[Value]
 }
 
 // The arguments that a format reads so, in order.
-fn format_arguments(
-    alloc: Global,
-    kinds: &[Kind],
-    args: &[Value],
-) -> Result<FormatArgs, CallStop>
+fn format_arguments(alloc: Global, kinds: &[Kind], args: &[Value]) -> Result<FormatArgs, CallStop>
     ensures { GivesOrNoMemory result (format_arguments kinds.now (trees_of args.now)) }
 {
     let mut out = FormatArgs::new(alloc);

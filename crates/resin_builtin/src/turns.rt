@@ -7,7 +7,7 @@ ghost use Rattle.resin_builtin.specs.Signatures.{parameters, kind_at, null_is_de
 ghost use Rattle.resin_builtin.specs.Turns.{turned, turned_into, turned_text, turned_integer, turned_array, integer_in_text};
 
 use crate::answers::{number, text_value};
-use crate::signature::{ArgKind, Sig};
+use crate::signatures::{ArgKind, Sig};
 use resin_ops::to_text;
 use resin_scalar::{CallStop, ErrorKind, NumFault, Scalar, ScriptFault};
 use resin_value::Value;

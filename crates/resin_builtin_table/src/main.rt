@@ -283,7 +283,9 @@ fn put_token(
 ) -> Result<(), CallStop> {
     if token == "[" {
         let array = Arr::new(alloc)?;
-        opened.push(Open { array, key: None }).map_err(AllocError::from)?;
+        opened
+            .push(Open { array, key: None })
+            .map_err(AllocError::from)?;
         return Ok(());
     }
     if token == "]" {

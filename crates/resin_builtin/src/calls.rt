@@ -17,12 +17,12 @@ use crate::builtin::{Builtin, Digest, OneArray, OneInteger, OneText, Test, TwoTe
 use crate::format_row::sprintf_row;
 use crate::names::builtin_named;
 use crate::replace_row::str_replace_row;
-use crate::signature::sig_of;
+use crate::signatures::sig_of;
 use crate::text_rows::{
     digest_row, implode_row, one_text_row, str_pad_row, str_repeat_row, strpos_row, substr_row,
     trim_row, two_text_row,
 };
-use crate::value_rows::{integer_row, intdiv_row, intval_row, tested};
+use crate::value_rows::{intdiv_row, integer_row, intval_row, tested};
 use resin_array_fn::array_merge;
 use resin_label::PSet;
 use resin_scalar::{CallStop, ErrorKind, ScriptFault, Spent, Ticks};
@@ -167,12 +167,7 @@ fn of_text(alloc: Global, row: OneText, args: &[Value]) -> Result<Value, CallSto
     one_text_row(alloc, row, s)
 }
 
-fn of_digest(
-    alloc: Global,
-    row: Digest,
-    args: &[Value],
-    set: &PSet,
-) -> Result<Value, CallStop>
+fn of_digest(alloc: Global, row: Digest, args: &[Value], set: &PSet) -> Result<Value, CallStop>
     ensures { GivesOrNoMemory (seen_answer result) (row_of_builtin (Builtin.Digest row) (trees_of args.now) set.now) }
 {
     let s = text_at(args, 0)?;

@@ -51,7 +51,10 @@ pub(crate) fn sig_of(builtin: Builtin) -> Sig
         builtin,
         least,
         most,
-        merges: matches!(builtin, Builtin::Digest(_) | Builtin::Intval | Builtin::Intdiv),
+        merges: matches!(
+            builtin,
+            Builtin::Digest(_) | Builtin::Intval | Builtin::Intdiv
+        ),
     }
 }
 
