@@ -1,0 +1,12 @@
+pub mod Words
+pub mod Leads
+pub mod Start
+pub mod Trees
+pub mod Names
+pub mod Combine
+pub mod Constants
+pub mod Plain
+pub mod Statements
+pub mod Declarations
+pub mod Reading
+pub mod Programs
