@@ -76,9 +76,9 @@ module _ {Token Name : Type 0} {Value : Name → Type 0} (rules : (n : Name) →
   optional_takes F G other t [] e h = cc
   optional_takes F G other t (x ∷ ts) e h = (let same : t ≡ x = cc in sym (optional_reads F G other x ts (subst (λ y. begins F y ≡ true) same h)))
 
-  pub optional_ends : {A B : Type 0} (F : Form Token Name Value A) (G : A → Form Token Name Value B) (other : B) (next : Option Token) (old : List Token) → first old ≡ next → ((t : Token) → next ≡ Some t → begins F t ≡ false) → under (optional F G other) old ≡ Got other old
-  optional_ends F G other next [] e h = refl
-  optional_ends F G other next (x ∷ ts) e h = optional_passes F G other x ts (h x (sym e))
+  pub optional_ends : {A B : Type 0} (F : Form Token Name Value A) (G : A → Form Token Name Value B) (other : B) (o : Option Token) (old : List Token) → first old ≡ o → ((t : Token) → o ≡ Some t → begins F t ≡ false) → under (optional F G other) old ≡ Got other old
+  optional_ends F G other o [] e h = refl
+  optional_ends F G other o (x ∷ ts) e h = optional_passes F G other x ts (h x (sym e))
 
   -- a form from its first token on
   pub next_takes : {A B : Type 0} (F : Form Token Name Value A) (G : Token → A → Form Token Name Value B) (other : Token → B) (t : Token) (old : List Token) → first old ≡ Some t → begins F t ≡ true → under (andthen F (G t)) old ≡ under (next (begins F) (λ x. behind_first F (G x) (other x) x)) old
