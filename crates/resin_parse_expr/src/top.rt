@@ -116,28 +116,3 @@ pub fn expression(
         Err(Fault::Memory) => Err(ParseFault::Memory),
     }
 }
-
-#[cfg(test)]
-mod tests {
-    use super::*;
-    use resin_lex::tokens;
-    use std::test::Fail;
-
-    fn outcome(rt: &HostRuntime, src: &[u8]) -> Result<usize, Fail> {
-        let alloc = rt.alloc();
-        let list = tokens(alloc, src).ok().ok_or("lexed")?;
-        match expression(alloc, &list, 0, 0) {
-            Ok((_, next)) => Ok(next),
-            Err(ParseFault::Syntax { offset }) => Ok(1000 + offset as usize),
-            Err(ParseFault::TooDeep { offset }) => Ok(2000 + offset as usize),
-            Err(ParseFault::Memory) => Ok(3000),
-        }
-    }
-
-    #[test]
-    fn places(rt: HostRuntime) -> Result<(), Fail> {
-        assert_eq!(rt; outcome(&rt, b"<?php 1+2*3")?, 5);
-        assert_eq!(rt; outcome(&rt, b"<?php $a = ;")?, 1011);
-        Ok(())
-    }
-}

@@ -58,6 +58,13 @@ fn declarations_by_their_first_tokens(rt: HostRuntime) -> Result<(), Fail> {
     Ok(())
 }
 
+fn is_one_link(kind: &StmtKind) -> bool {
+    match kind {
+        StmtKind::If(links, other) => links.len() == 1 && other.is_none(),
+        _ => false,
+    }
+}
+
 #[test]
 fn chains_of_links(rt: HostRuntime) -> Result<(), Fail> {
     let alloc = rt.alloc();
@@ -69,13 +76,7 @@ fn chains_of_links(rt: HostRuntime) -> Result<(), Fail> {
     chain.push(alloc, Expr::Literal(Literal::Int(1)), body)?;
     let whole = chain.whole(alloc, None)?;
     assert_eq!(rt; whole.line, 4);
-    match whole.kind {
-        StmtKind::If(links, other) => {
-            assert_eq!(rt; links.len(), 1);
-            assert!(rt; other.is_none());
-        }
-        _ => assert!(rt; false),
-    }
+    assert!(rt; is_one_link(&whole.kind));
     crate::programs_are_read_one_way();
     Ok(())
 }
