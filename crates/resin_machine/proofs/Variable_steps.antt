@@ -1,0 +1,131 @@
+-- Steps on variables: those of the inputs, and those of calls and the top level.
+use Rattle.std.proofs.Common.{◌≡◌, ℕ, List, length, true, false, cond, Option, Some, None, Result, Ok, unwrap_or, is_some, refl, sym, ap, subst, ◌∙◌}
+use Rattle.std.specs.FinMap.{get, insert, remove}
+use Rattle.resin_value.specs.declared.value.Value.{Value}
+use Rattle.resin_value.specs.declared.value.Value.TheVariants.{Null}
+use Rattle.resin_scope.specs.Frames.{Frames, Variables, value_of, assigned, without_name, with_bound}
+use Rattle.resin_machine.specs.declared.stop.Stop.{Stop}
+use Rattle.resin_machine.specs.State.{State}
+use Rattle.resin_machine.specs.Keeping.{IsInside}
+use Rattle.resin_machine.specs.Steps.{Acts}
+use Rattle.resin_machine.specs.Variables.{is_input, variable, with_variable, read, assign, taken_from, without_variable, bind_global}
+use Rattle.resin_machine.proofs.Calls.{assigned_open, without_open, bound_open}
+use Rattle.resin_machine.proofs.Taken.{gives_inside, gives_same}
+
+-- which variable a name means
+pub value_of_input : (name : List ℕ) (m : State) → is_input name ≡ true → variable name m ≡ get m.inputs name
+value_of_input name m e = ap (λ b. cond b (get m.inputs name) (value_of name m.frames)) e
+
+pub value_of_other : (name : List ℕ) (m : State) → is_input name ≡ false → variable name m ≡ value_of name m.frames
+value_of_other name m e = ap (λ b. cond b (get m.inputs name) (value_of name m.frames)) e
+
+abbrev with_input : List ℕ → Value → State → State
+with_input name v m = record m { inputs = insert m.inputs name v }
+
+abbrev with_other : List ℕ → Value → State → State
+with_other name v m = record m { frames = assigned name v m.frames }
+
+pub set_input : (name : List ℕ) (v : Value) (m : State) → is_input name ≡ true → with_variable name v m ≡ with_input name v m
+set_input name v m e = ap (λ b. cond b (with_input name v m) (with_other name v m)) e
+
+pub set_other : (name : List ℕ) (v : Value) (m : State) → is_input name ≡ false → with_variable name v m ≡ with_other name v m
+set_other name v m e = ap (λ b. cond b (with_input name v m) (with_other name v m)) e
+
+pub inputs_inside : (m : State) (inputs : Variables) → IsInside m (record m { inputs = inputs })
+inputs_inside m inputs = record { stage = refl; ticks = refl; request = refl; open_calls = refl; checking = refl }
+
+pub frames_inside : (m : State) (frames : Frames) → length frames.calls ≡ length m.frames.calls → IsInside m (record m { frames = frames })
+frames_inside m frames h = record { stage = refl; ticks = refl; request = refl; open_calls = h; checking = refl }
+
+-- a variable changed in the state m0, which is m
+input_changed : (name : List ℕ) (v : Value) (m0 : State) (inputs : Variables) → is_input name ≡ true → inputs ≡ insert m0.inputs name v → (record m0 { inputs = inputs }) ≡ with_variable name v m0
+input_changed name v m0 inputs i e = ap (λ (x : Variables). let y : State = record m0 { inputs = x } in y) e ∙ sym (set_input name v m0 i)
+
+other_changed : (name : List ℕ) (v : Value) (m0 : State) (frames : Frames) → is_input name ≡ false → frames ≡ assigned name v m0.frames → (record m0 { frames = frames }) ≡ with_variable name v m0
+other_changed name v m0 frames i e = ap (λ (x : Frames). let y : State = record m0 { frames = x } in y) e ∙ sym (set_other name v m0 i)
+
+open_of : (name : List ℕ) (v : Value) (m0 : State) (frames : Frames) → frames ≡ assigned name v m0.frames → length frames.calls ≡ length m0.frames.calls
+open_of name v m0 frames e = ap (λ (x : Frames). length x.calls) e ∙ assigned_open name v m0.frames
+
+pub assigned_input : (name : List ℕ) (v : Value) (m m0 : State) (inputs : Variables) → m0 ≡ m → is_input name ≡ true → inputs ≡ insert m0.inputs name v → Acts (assign name v) m (Ok tt) (record m0 { inputs = inputs })
+assigned_input name v m m0 inputs e0 i e =
+    subst (λ (x : State). Acts (assign name v) x (Ok tt) (record m0 { inputs = inputs })) e0
+    (gives_inside (assign name v) m0 tt _ (ap (λ (x : State). let p : Result (Unit {0}) Stop × State = (Ok tt, x) in p) (sym (input_changed name v m0 inputs i e))) (inputs_inside m0 inputs))
+
+pub assigned_other : (name : List ℕ) (v : Value) (m m0 : State) (frames : Frames) → m0 ≡ m → is_input name ≡ false → frames ≡ assigned name v m0.frames → Acts (assign name v) m (Ok tt) (record m0 { frames = frames })
+assigned_other name v m m0 frames e0 i e =
+    subst (λ (x : State). Acts (assign name v) x (Ok tt) (record m0 { frames = frames })) e0
+    (gives_inside (assign name v) m0 tt _ (ap (λ (x : State). let p : Result (Unit {0}) Stop × State = (Ok tt, x) in p) (sym (other_changed name v m0 frames i e))) (frames_inside m0 frames (open_of name v m0 frames e)))
+
+-- a variable that is there, put back or taken
+pub put_input : (name : List ℕ) (v : Value) (m m0 : State) (inputs : Variables) → m0 ≡ m → is_input name ≡ true → inputs ≡ insert m0.inputs name v → ((record m0 { inputs = inputs }) ≡ with_variable name v m) × IsInside m (record m0 { inputs = inputs })
+put_input name v m m0 inputs e0 i e = (
+  input_changed name v m0 inputs i e ∙ ap (with_variable name v) e0,
+  subst (λ (x : State). IsInside x (record m0 { inputs = inputs })) e0 (inputs_inside m0 inputs),
+)
+
+pub put_other : (name : List ℕ) (v : Value) (m m0 : State) (frames : Frames) → m0 ≡ m → is_input name ≡ false → frames ≡ assigned name v m0.frames → ((record m0 { frames = frames }) ≡ with_variable name v m) × IsInside m (record m0 { frames = frames })
+put_other name v m m0 frames e0 i e = (
+  other_changed name v m0 frames i e ∙ ap (with_variable name v) e0,
+  subst (λ (x : State). IsInside x (record m0 { frames = frames })) e0 (frames_inside m0 frames (open_of name v m0 frames e)),
+)
+
+there : {X : Type 0} (o : Option X) (v : X) → o ≡ Some v → is_some o ≡ true
+there o v e = ap is_some e
+
+pub taken_there : (name : List ℕ) (m : State) (v : Value) → variable name m ≡ Some v → taken_from name m ≡ with_variable name Null m
+taken_there name m v e = ap (λ b. cond b (with_variable name Null m) m) (there (variable name m) v e)
+
+pub none_taken : (name : List ℕ) (m : State) → variable name m ≡ None → taken_from name m ≡ m
+none_taken name m e = ap (λ b. cond b (with_variable name Null m) m) (ap is_some e)
+
+-- a variable taken out
+abbrev without_input : List ℕ → State → State
+without_input name m = record m { inputs = remove m.inputs name }
+
+abbrev without_other : List ℕ → State → State
+without_other name m = record m { frames = without_name name m.frames }
+
+pub unset_input : (name : List ℕ) (m m0 : State) (inputs : Variables) → m0 ≡ m → is_input name ≡ true → inputs ≡ remove m0.inputs name → ((record m0 { inputs = inputs }) ≡ without_variable name m) × IsInside m (record m0 { inputs = inputs })
+unset_input name m m0 inputs e0 i e = (
+  ap (λ (x : Variables). let y : State = record m0 { inputs = x } in y) e
+      ∙ (sym (ap (λ b. cond b (without_input name m0) (without_other name m0)) i) ∙ ap (without_variable name) e0),
+  subst (λ (x : State). IsInside x (record m0 { inputs = inputs })) e0 (inputs_inside m0 inputs),
+)
+
+pub unset_other : (name : List ℕ) (m m0 : State) (frames : Frames) → m0 ≡ m → is_input name ≡ false → frames ≡ without_name name m0.frames → ((record m0 { frames = frames }) ≡ without_variable name m) × IsInside m (record m0 { frames = frames })
+unset_other name m m0 frames e0 i e = (
+  ap (λ (x : Frames). let y : State = record m0 { frames = x } in y) e
+      ∙ (sym (ap (λ b. cond b (without_input name m0) (without_other name m0)) i) ∙ ap (without_variable name) e0),
+  subst (λ (x : State). IsInside x (record m0 { frames = frames })) e0 (frames_inside m0 frames (ap (λ (x : Frames). length x.calls) e ∙ without_open name m0.frames)),
+)
+
+-- a name bound, or left as it is
+pub bound_input : (name : List ℕ) (m : State) → is_input name ≡ true → Acts (bind_global name) m (Ok tt) m
+bound_input name m i =
+    gives_same (bind_global name) m tt (ap (λ b. let p : Result (Unit {0}) Stop × State = (Ok tt, cond b m (record m { frames = with_bound name m.frames })) in p) i)
+
+pub bound_other : (name : List ℕ) (m m0 : State) (frames : Frames) → m0 ≡ m → is_input name ≡ false → frames ≡ with_bound name m0.frames → Acts (bind_global name) m (Ok tt) (record m0 { frames = frames })
+bound_other name m m0 frames e0 i e =
+    subst (λ (x : State). Acts (bind_global name) x (Ok tt) (record m0 { frames = frames })) e0
+    (gives_inside (bind_global name) m0 tt _
+    (ap (λ b. let p : Result (Unit {0}) Stop × State = (Ok tt, cond b m0 (record m0 { frames = with_bound name m0.frames })) in p) i ∙ ap (λ (x : Frames). let p : Result (Unit {0}) Stop × State = (Ok tt, record m0 { frames = x }) in p) (sym e))
+    (frames_inside m0 frames (ap (λ (x : Frames). length x.calls) e ∙ bound_open name m0.frames)))
+
+-- the value of a variable, by where it stands
+pub input_is : (name : List ℕ) (m m0 : State) (o : Option Value) → m0 ≡ m → is_input name ≡ true → o ≡ get m0.inputs name → o ≡ variable name m
+input_is name m m0 o e0 i e = e ∙ (ap (λ (x : State). get x.inputs name) e0 ∙ sym (value_of_input name m i))
+
+pub other_is : (name : List ℕ) (m m0 : State) (o : Option Value) → m0 ≡ m → is_input name ≡ false → o ≡ value_of name m0.frames → o ≡ variable name m
+other_is name m m0 o e0 i e = e ∙ (ap (λ (x : State). value_of name x.frames) e0 ∙ sym (value_of_other name m i))
+
+pub value_taken : (name : List ℕ) (m : State) (v : Value) → Some v ≡ variable name m → v ≡ unwrap_or (variable name m) Null
+value_taken name m v e = ap (λ (o : Option Value). unwrap_or o Null) e
+
+-- a variable read
+pub variable_read : (name : List ℕ) (m : State) (v w : Value) → Some w ≡ variable name m → v ≡ w → Acts (read name) m (Ok v) m
+variable_read name m v w e ev =
+    gives_same (read name) m v (ap (λ (o : Option Value). let p : Result Value Stop × State = (Ok (unwrap_or o Null), m) in p) (sym e) ∙ ap (λ (x : Value). let p : Result Value Stop × State = (Ok x, m) in p) (sym ev))
+
+pub nothing_read : (name : List ℕ) (m : State) → None ≡ variable name m → Acts (read name) m (Ok Null) m
+nothing_read name m e = gives_same (read name) m Null (ap (λ (o : Option Value). let p : Result Value Stop × State = (Ok (unwrap_or o Null), m) in p) (sym e))

@@ -1,0 +1,7 @@
+pub mod State
+pub mod Keeping
+pub mod Steps
+pub mod Variables
+pub mod Objects
+pub mod Filters
+pub mod Leaving

@@ -1,0 +1,17 @@
+//! The state of a request while its scripts run, and the small steps that change it.
+#![tactic(auto)]
+
+mod filters;
+mod fuel;
+mod leaving;
+mod machine;
+mod names;
+mod objects;
+mod stop;
+mod thrown;
+mod variables;
+
+pub use leaving::Finished;
+pub use machine::Machine;
+pub use resin_stage::Stage;
+pub use stop::Stop;
