@@ -1,0 +1,4 @@
+pub mod Parts
+pub mod Composition
+pub mod Enclosures
+pub mod OneCall
