@@ -1,0 +1,6 @@
+use Rattle.resin_program_grammar.specs.Names.{ForHead}
+use Rattle.resin_parse_plain.proofs.Lifted.{opened_at}
+use Rattle.resin_parse_plain.proofs.reader.Reader.for_head_inside.Goals as goal
+
+pub returns : goal.returns
+returns c = opened_at c.args.self.now.lines.now c.inside.result.lines.now c.args.self.now.depth c.inside.result.depth ForHead c.args.tokens.now c.for_head.new.tokens c.for_head.result c.inside.ensures.lines c.inside.ensures.depth c.for_head.ensures
