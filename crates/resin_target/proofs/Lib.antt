@@ -1,0 +1,4 @@
+pub mod Twice
+pub mod Under
+pub mod Places
+pub mod Ends

@@ -1,0 +1,13 @@
+use Rattle.std.proofs.Common.{ap, sym, subst, ◌∙◌, ℕ, Result}
+use Rattle.resin_scalar.specs.declared.faults.CallStop.{CallStop}
+use Rattle.resin_target.specs.Reads.{GivesOrNoMemory, on}
+use Rattle.resin_target.specs.Stores.{stored, with_change}
+use Rattle.resin_target.specs.Heights.{height_of, raised_to}
+use Rattle.resin_target.proofs.Under.{value_there, height_with_change}
+use Rattle.resin_target.proofs.stores.+heights.Goals as goal
+
+pub height_with-returns-in-Some : goal.height_with-returns-in-Some
+height_with-returns-in-Some t c =
+    subst (λ (x : Result ℕ CallStop). GivesOrNoMemory x (height_of (with_change c.args.index.now (λ below. stored c.args.rest.now c.args.v.now below) c.args.array.now))) (sym (c.raised.ensures ∙ ap (λ h. on c.stored_height.result (raised_to h)) c.height.ensures.value))
+    (height_with_change c.args.index.now c.in_ok-key.key c.args.array.now (λ below. stored c.args.rest.now c.args.v.now below) c.in-Some.below.now c.stored_height.result c.in_ok-key.ensures.value
+    (value_there c.in_ok-key.key c.in-Some.below.now c.args.array.now c.in-Some.ensures) c.stored_height.ensures)

@@ -1,0 +1,5 @@
+pub mod Paths
+pub mod Reads
+pub mod Stores
+pub mod Heights
+pub mod Targets
