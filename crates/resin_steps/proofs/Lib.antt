@@ -1,0 +1,5 @@
+pub mod Answered
+pub mod Lists
+pub mod Named
+pub mod Objects
+pub mod Ticks
