@@ -1,0 +1,7 @@
+pub mod Opened
+pub mod Fewer
+pub mod Steps
+pub mod Ahead
+pub mod Whole
+pub mod Repeats
+pub mod Chains
