@@ -1,5 +1,5 @@
 -- What the forms of statements do where the next token is known.
-use Rattle.std.proofs.Common.{◌≡◌, ◌≢◌, ℕ, zero, suc, Bool, true, false, List, [], ◌∷◌, ◌++◌, drop, Option, Some, None, refl, sym, ◌∙◌, ap}
+use Rattle.std.proofs.Common.{◌≡◌, ◌≢◌, ℕ, zero, suc, Bool, true, false, List, [], ◌∷◌, drop, Option, Some, None, refl, sym, ◌∙◌, ap}
 use Rattle.std.specs.Prelude.{◌||◌, is_some, unwrap_or}
 use Rattle.resin_form.specs.Form.{Named, Enters, give, plain, followed}
 use Rattle.resin_form.specs.Meaning.{allows_at}
@@ -11,12 +11,10 @@ use Rattle.resin_tree.specs.declared.declaration.Item.{Item}
 use Rattle.resin_tree.specs.declared.declaration.Item.TheVariants as item
 use Rattle.resin_tree.specs.declared.statement.Simple.TheVariants.{Inline}
 use Rattle.resin_tree.specs.declared.statement.Catch.{Catch}
-use Rattle.resin_tree.specs.declared.statement.Stmt.{Stmt}
 use Rattle.resin_grammar.specs.Reading.{is_low}
 use Rattle.resin_grammar.specs.declared.sign.Sign.TheVariants as s
 use Rattle.resin_program_grammar.specs.declared.chain.Around.{Around}
 use Rattle.resin_program_grammar.specs.declared.chain.Chain.{Chain}
-use Rattle.resin_program_grammar.specs.declared.chain.Left.{Left}
 use Rattle.resin_program_grammar.specs.declared.lead.Compound.{Compound}
 use Rattle.resin_program_grammar.specs.declared.lead.Plain.{Plain}
 use Rattle.resin_program_grammar.specs.declared.word.Word.TheVariants as w

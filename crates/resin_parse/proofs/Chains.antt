@@ -1,5 +1,5 @@
 -- How an `if` goes on behind a link that has left something, or nothing.
-use Rattle.std.proofs.Common.{◌≡◌, ℕ, true, false, List, Option, None, refl}
+use Rattle.std.proofs.Common.{◌≡◌, ℕ, true, false, List, None, refl}
 use Rattle.resin_form.specs.Reading.{Got}
 use Rattle.resin_lex.specs.declared.token.Token.{Token}
 use Rattle.resin_program_grammar.specs.declared.chain.Around.{Around}

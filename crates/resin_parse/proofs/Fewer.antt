@@ -1,5 +1,5 @@
 -- A reader to a depth reads to each smaller one.
-use Rattle.std.proofs.Common.{◌≡◌, ℕ, ◌+◌, ◌<◌, ◌≤◌, List, Result, arith}
+use Rattle.std.proofs.Common.{ℕ, ◌≤◌, List, Result, arith}
 use denote.Ref.{MutBor}
 use Rattle.resin_form.specs.declared.fault.Fault.{Fault}
 use Rattle.resin_lex.specs.declared.token.Token.{Token}

@@ -1,8 +1,8 @@
 -- A step of a repetition from its first token on.
-use Rattle.std.proofs.Common.{◌≡◌, ℕ, suc, Bool, true, false, List, [], ◌∷◌, drop, Option, Some, refl, sym, ◌∙◌, ap}
+use Rattle.std.proofs.Common.{◌≡◌, ℕ, Bool, true, List, [], ◌∷◌, drop, Some, ◌∙◌, ap}
 use Rattle.resin_form.specs.Form.{Own, Named, Form, andthen, next, followed, After}
 use Rattle.resin_form.specs.Meaning.{allows_at, reading}
-use Rattle.resin_form.specs.Reading.{Outcome, Reader, and_then, read, read_after}
+use Rattle.resin_form.specs.Reading.{Reader, and_then, read, read_after}
 use Rattle.resin_form.specs.Reads.{first}
 use Rattle.resin_form.proofs.Cases.{if_true}
 

@@ -1,10 +1,9 @@
 -- From the outcome of reading the tokens of a text to what the text is.
-use Rattle.std.proofs.Common.{◌≡◌, ℕ, zero, suc, ◌+◌, ◌-◌, List, [], ◌∷◌, ◌++◌, length, take, drop, Option, Some, None, ◌⊎◌, inl, inr, refl, sym, ◌∙◌, ap, subst, arith, length-append, append_assoc}
+use Rattle.std.proofs.Common.{◌≡◌, ℕ, ◌+◌, ◌-◌, List, [], ◌∷◌, ◌++◌, length, drop, Option, Some, None, ◌⊎◌, inl, inr, refl, sym, ◌∙◌, ap, subst, arith, length-append, append_assoc}
 use mathlib.Core.Path.{fun_ext}
 use Rattle.std.specs.Prelude.{unwrap_or}
 use Rattle.std.proofs.Math.Seq.{drop-append_seam}
 use Rattle.std.proofs.lemmas.List.{append-nil}
-use Rattle.resin_form.specs.Form.{give}
 use Rattle.resin_form.specs.Meaning.{IsFrontWithin, IsTree, SpellsWithin}
 use Rattle.resin_form.specs.Reading.{Outcome, Got, Stop, Deep}
 use Rattle.resin_form.proofs.Fronts.{is_read, is_refused, is_too_deep, one_tree, tree_without_limits}

@@ -1,7 +1,7 @@
 -- What a parser of statements reads through its function value: what nests in statements.
-use Rattle.std.specs.Prelude.{ℕ, ◌<◌, Bool, false, List, [], ◌∷◌, ◌++◌, Result, Option, Some, None, is_some, unwrap_or}
+use Rattle.std.specs.Prelude.{ℕ, ◌<◌, Bool, false, List, [], ◌∷◌, ◌++◌, Result, Some, None, is_some, unwrap_or}
 use denote.Ref.{MutBor}
-use Rattle.resin_form.specs.Form.{Begin, Form, After, give, next, taken}
+use Rattle.resin_form.specs.Form.{Begin, give, next, taken}
 use Rattle.resin_form.specs.Reading.{Reader as Reading}
 use Rattle.resin_form.specs.Reads.{Reads}
 use Rattle.resin_form.specs.declared.fault.Fault.{Fault}
@@ -13,7 +13,6 @@ use Rattle.resin_tree.specs.declared.statement.Simple.TheVariants.{Inline}
 use Rattle.resin_tree.specs.declared.statement.Stmt.{Stmt}
 use Rattle.resin_program_grammar.specs.Declarations.{one_item, function, class, final_class}
 use Rattle.resin_program_grammar.specs.Leads.{inline_of}
-use Rattle.resin_program_grammar.specs.Names.{Name, Value}
 use Rattle.resin_program_grammar.specs.declared.chain.Left.{Left}
 use Rattle.resin_program_grammar.specs.declared.chain.Left.TheVariants.{ElseIf}
 use Rattle.resin_program_grammar.specs.Combine.{Rule, Behind, ◌>>=◌, either, no_token}

@@ -1,4 +1,4 @@
-use Rattle.std.proofs.Common.{◌≡◌, ◌-◌, List, length, drop, Bool, false, None, Err, ◌∙◌, sym, subst}
+use Rattle.std.proofs.Common.{◌≡◌, ◌-◌, length, drop, false, None, Err, ◌∙◌, sym, subst}
 use Rattle.std.proofs.Common.{rules as std_rules}
 use Rattle.std.specs.Prelude.{IsTrue, unwrap_or}
 use Rattle.resin_form.specs.Reading.{Got, Stop, Deep}
