@@ -120,14 +120,14 @@ no_length (x ∷ xs) e = cc
 
 -- the same of what a reader finds that goes by lines of its own, and of the places that it tells
 module _ (src : List ℕ) (tokens : List Token) (lexical : Option ℕ) (lexed : HasFront src tokens lexical) (line : Token → ℕ) (same : (t : Token) → line t ≡ line_of_token src t) (rest : List Token) where
-  by_lines : (o : Outcome Token Program) → under line 200 (program line) tokens ≡ o → under (line_of_token src) 200 (program (line_of_token src)) tokens ≡ o
+  pub by_lines : (o : Outcome Token Program) → under line 200 (program line) tokens ≡ o → under (line_of_token src) 200 (program (line_of_token src)) tokens ≡ o
   by_lines o e = subst (λ l. under l 200 (program l) tokens ≡ o) (fun_ext same) e
 
   pub is_program : (p : Program) → under line 200 (program line) tokens ≡ Got p rest → length rest ≡ 0 → lexical ≡ None → IsProgram src p
   is_program p e r n = whole src tokens lexical lexed rest p (by_lines (Got p rest) e) (no_length rest r) n
 
   module _ (at place end : ℕ) (count : at ≡ length tokens - length rest) (until : end ≡ unwrap_or lexical (length src)) where
-    placed : (front : List Token) → tokens ≡ front ++ rest → place ≡ place_of end (drop at tokens) → place_of (unwrap_or lexical (length src)) rest ≡ place
+    pub placed : (front : List Token) → tokens ≡ front ++ rest → place ≡ place_of end (drop at tokens) → place_of (unwrap_or lexical (length src)) rest ≡ place
     placed front text is = sym (is ∙ ap (λ k. place_of end (drop k tokens)) count ∙ ap (place_of end) (behind_front tokens front rest text) ∙ ap (λ x. place_of x rest) until)
 
     pub ends_at : (p : Program) → under line 200 (program line) tokens ≡ Got p rest → (length rest ≡ 0 → lexical ≡ None → ⊥) → place ≡ place_of end (drop at tokens) → IsFaultPlace src place

@@ -7,6 +7,7 @@ ghost use Rattle.resin_lex.specs.declared.token.Token.{Token as TheToken};
 ghost use Rattle.resin_tree.specs.declared.declaration.Program.{Program as TheProgram};
 ghost use Rattle.resin_program_grammar.specs.Declarations as declarations;
 ghost use Rattle.resin_program_grammar.specs.Programs.{IsParsed, IsProgram, place_of};
+ghost use Rattle.resin_parse.specs.Parsed.{IsAsParsed};
 ghost use Rattle.resin_parse.specs.Nested.{Nests, by, class_item, final_item, form_of, function_item, line_by, one_more_item, statement_item};
 
 use crate::parser::{Nested, Parser, inside_of, statement_of};
@@ -192,9 +193,12 @@ fn is_whole(left: usize, lexical: Option<u32>) -> bool
 /// are no front of a program, or that of the first lexical fault, or the end of the text, whichever comes first.
 /// `TooDeep` where the 201st construct that is open in others opens before such a place, with the place of the token that
 /// opens it. `Memory` where memory was wanted.
+///
+/// What a text is read as is also told as a function of the text, so that what a program does can be said of its text.
 pub fn program(alloc: Global, src: &[u8]) -> Result<Program, ParseFault>
     requires { length src.now ≤ 16777216 }
-    ensures { IsParsed result src.now }
+    ensures parsed { IsParsed result src.now }
+    ensures exact { IsAsParsed result src.now }
 {
     let lines = Lines::new(alloc, src)?;
     let lexing = tokens_and_fault(alloc, src)?;
