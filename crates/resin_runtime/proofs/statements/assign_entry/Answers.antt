@@ -1,0 +1,14 @@
+use Rattle.resin_evaluation.specs.Runs.{Runs}
+use Rattle.resin_evaluation.specs.Statements.{assign_entry}
+use Rattle.resin_program.proofs.Composition.{does_exit, does_lost_exit}
+use Rattle.std.proofs.Common.{subst, sym, ◌-◌}
+use Rattle.std.specs.Prelude.{IfSome}
+use Rattle.resin_runtime.proofs.statements.assign_entry.Goals as goal
+
+pub returns-in_err-assign_key : goal.returns-in_err-assign_key
+returns-in_err-assign_key c =
+    subst (λ o. IfSome o (λ e. Runs (assign_entry c.args.kx.now c.args.x.now e) c.args.m.now c.from_residual.result _)) (sym c.entry.ensures) (λ f t k. does_exit _ _ _ c.from_residual.ensures.1 (c.in_err-assign_key.ensures f t k))
+
+pub returns-in_err-v : goal.returns-in_err-v
+returns-in_err-v c =
+    subst (λ o. IfSome o (λ e. Runs (assign_entry c.args.kx.now c.args.x.now e) c.args.m.now c.from_residual-in_err-v.result _)) (sym c.entry.ensures) (λ f t k. does_lost_exit _ _ _ c.from_residual-in_err-v.ensures.1 (c.in_ok-assign_key.ensures f t k))
