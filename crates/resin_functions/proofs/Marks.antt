@@ -1,5 +1,5 @@
 -- Functions that mark data and set filters, by what their parts answered.
-use Rattle.std.proofs.Common.{◌≡◌, ℕ, zero, suc, ◌+◌, ◌-◌, ◌<◌, ◌≤◌, List, [], ◌∷◌, ◌++◌, length, drop, map, Bool, true, false, cond, Option, None, Some, Result, Ok, Err, IsErrAnd, refl, sym, ap, subst, ◌∙◌, arith}
+use Rattle.std.proofs.Common.{◌≡◌, ℕ, zero, suc, ◌+◌, ◌-◌, ◌<◌, ◌≤◌, List, [], ◌∷◌, ◌++◌, length, drop, get_or, map, Bool, true, false, cond, Option, None, Some, Result, Ok, Err, IsErrAnd, refl, sym, ap, subst, ◌∙◌, arith}
 use Rattle.std.specs.Prelude.{ℤ, slice_get, ◌&&◌}
 use Rattle.std.specs.List.{list_all}
 use Rattle.std.proofs.lemmas.Result.{err_from_is_err_and}
@@ -40,11 +40,10 @@ use Rattle.resin_evaluation.specs.Parts.{computed, faulted, looked, thrown_new, 
 use Rattle.resin_evaluation.specs.Writes.{plain}
 use Rattle.resin_evaluation.specs.Merges.{is_under, list_of_objects, objects_among, values_in, policies_in, with_answer}
 use Rattle.resin_evaluation.specs.Functions.{nameable, channel_among, channel_for, number_in, policies_of, object_under, with_policy, without_policy, seen, class_name, remove_filter, state_work}
-use Rattle.resin_evaluation.specs.Calls.{object_of}
 use Rattle.resin_evaluation.specs.declared.callee.StateFunction.{StateFunction}
 use Rattle.resin_evaluation.specs.declared.callee.StateFunction.TheVariants.{PolicyAdd, PolicyRemove, PolicyGet, FilterAdd, FilterRemove, FilterFunctionAdd, GetClass}
 use Rattle.resin_runtime.proofs.Pure.{drop_at}
-use Rattle.resin_runtime.proofs.Steps.{does_faulted, runs_as, thrown_seen}
+use Rattle.resin_runtime.proofs.Steps.{does_faulted, fault_there, runs_as, thrown_seen}
 
 -- ---- objects under a class
 
@@ -268,18 +267,6 @@ no_answer (Text t) h = refl
 no_answer (Arr a) h = absurd (h a refl)
 no_answer (Obj o) h = refl
 
-pub no_object : (v : Value) → ((o : ℕ) → v ≡ Obj o → ⊥) → ◌≡◌ {A = Prog ℕ} (object_of v) (faulted BadOperand)
-no_object Null h = refl
-no_object (Truth b) h = refl
-no_object (Int n s) h = refl
-no_object (Text t) h = refl
-no_object (Arr a) h = refl
-no_object (Obj o) h = absurd (h o refl)
-
--- a fault in place of a program that is one
-pub fault_there : {A : Type 0} (p : Prog A) (m : State) (s : Stop) → p ≡ faulted BadOperand → s ≡ Fault BadOperand m.line → Runs p m (Err s) m
-fault_there {A = A} p m s e fault = runs_as p (faulted BadOperand) m (Err s) m e (does_faulted {A = A} BadOperand m s fault)
-
 pub answer_refused : (so_far : NumberSet) (v : Value) (m : State) (s : Stop) → ((a : Array) → v ≡ Arr a → ⊥) → s ≡ Fault BadOperand m.line → Runs (with_answer so_far v) m (Err s) m
 answer_refused so_far v m s h fault f u k = does_stop (policies_in v) (λ ps. give (insert_all so_far ps)) (fault_there (policies_in v) m s (no_answer v h) fault f u k)
 
@@ -361,16 +348,7 @@ two_enough FilterRemove v w ts = removed_enough v w ts
 two_enough FilterFunctionAdd v w ts = function_enough v w ts
 two_enough GetClass v w ts = refl
 
-value_is : (x y : Value) → ◌≡◌ {A = Option Value} (Some x) (Some y) → x ≡ y
-value_is x y e = cc
-
-no_value : (x : Value) → ◌≡◌ {A = Option Value} None (Some x) → ⊥
-no_value x e = cc
-
-a_value : (x : Value) → ◌≡◌ {A = Option Value} (Some x) None → ⊥
-a_value x e = cc
-
-pub no_arguments : (f : StateFunction) (vs : List Value) → slice_get vs 0 ≡ None → ◌≡◌ {A = Prog Tree} (state_work f (trees_of vs)) (thrown_new ArgumentCountError)
+pub no_arguments : (f : StateFunction) (vs : List Value) → length vs ≡ 0 → ◌≡◌ {A = Prog Tree} (state_work f (trees_of vs)) (thrown_new ArgumentCountError)
 no_arguments PolicyAdd [] h = refl
 no_arguments PolicyRemove [] h = refl
 no_arguments PolicyGet [] h = refl
@@ -378,17 +356,17 @@ no_arguments FilterAdd [] h = refl
 no_arguments FilterRemove [] h = refl
 no_arguments FilterFunctionAdd [] h = refl
 no_arguments GetClass [] h = refl
-no_arguments f (v ∷ vs) h = absurd (a_value v h)
+no_arguments f (v ∷ vs) h = absurd (omega (arith, h))
 
-pub one_argument : (f : StateFunction) (vs : List Value) (v : Value) → slice_get vs 0 ≡ Some v → slice_get vs 1 ≡ None → ◌≡◌ {A = Prog Tree} (state_work f (trees_of vs)) (state_work f (tree_of v ∷ []))
-one_argument f [] v h j = absurd (no_value v h)
-one_argument f (x ∷ []) v h j = ap (λ y. state_work f (tree_of y ∷ [])) (value_is x v h)
-one_argument f (x ∷ w ∷ vs) v h j = absurd (a_value w j)
+pub one_argument : (f : StateFunction) (vs : List Value) (v : Value) → length vs ≡ 1 → v ≡ get_or vs 0 v → ◌≡◌ {A = Prog Tree} (state_work f (trees_of vs)) (state_work f (tree_of v ∷ []))
+one_argument f [] v h is = absurd (omega (arith, h))
+one_argument f (x ∷ []) v h is = ap (λ y. state_work f (tree_of y ∷ [])) (sym is)
+one_argument f (x ∷ w ∷ vs) v h is = absurd (omega (arith, h))
 
-pub two_arguments : (f : StateFunction) (vs : List Value) (v w : Value) → slice_get vs 0 ≡ Some v → slice_get vs 1 ≡ Some w → ◌≡◌ {A = Prog Tree} (state_work f (trees_of vs)) (state_work f (tree_of v ∷ tree_of w ∷ []))
-two_arguments f [] v w h j = absurd (no_value v h)
-two_arguments f (x ∷ []) v w h j = absurd (no_value w j)
-two_arguments f (x ∷ y ∷ vs) v w h j =
+pub two_arguments : (f : StateFunction) (vs : List Value) (v w : Value) → 2 ≤ length vs → v ≡ get_or vs 0 v → w ≡ get_or vs 1 w → ◌≡◌ {A = Prog Tree} (state_work f (trees_of vs)) (state_work f (tree_of v ∷ tree_of w ∷ []))
+two_arguments f [] v w h is also = absurd (omega (arith, h))
+two_arguments f (x ∷ []) v w h is also = absurd (omega (arith, h))
+two_arguments f (x ∷ y ∷ vs) v w h is also =
     two_enough f (tree_of x) (tree_of y) (trees_of vs)
-    ∙ (ap (λ z. state_work f (tree_of z ∷ tree_of y ∷ [])) (value_is x v h)
-    ∙ ap (λ z. state_work f (tree_of v ∷ tree_of z ∷ [])) (value_is y w j))
+    ∙ (ap (λ z. state_work f (tree_of z ∷ tree_of y ∷ [])) (sym is)
+    ∙ ap (λ z. state_work f (tree_of v ∷ tree_of z ∷ [])) (sym also))

@@ -6,6 +6,7 @@ use Rattle.resin_label.specs.Sets.{NumberSet}
 use Rattle.resin_lstr.specs.Texts.{Text as LabelledText, LONGEST}
 use Rattle.resin_scalar.specs.declared.faults.CallStop.{CallStop}
 use Rattle.resin_scalar.specs.declared.faults.CallStop.TheVariants.{Throw, Fault as CallFault, Memory as CallMemory}
+use Rattle.resin_scalar.specs.declared.faults.ScriptFault.TheVariants.{FuelSpent, TextTooLong}
 use Rattle.resin_value.specs.declared.value.Value.{Value}
 use Rattle.resin_value.specs.Trees.{Tree, boolean, text}
 use Rattle.resin_value.specs.Arrays.{EntryList}
@@ -35,13 +36,16 @@ use Rattle.resin_evaluation.specs.Functions.{work}
 
 -- ---- no ticks come back
 
+same : (n : ℕ) → n ≤ n
+same n = omega arith
+
 either : {X : Type 0} (b : Bool) (x y : X × ℕ) (n : ℕ) → x.1 ≤ n → y.1 ≤ n → (cond b x y).1 ≤ n
 either true x y n hx hy = hx
 either false x y n hx hy = hy
 
 with_falls : {X Y : Type 0} (r : Result X CallStop) (n : ℕ) (rest : X → Answer Y) → ((x : X) → (rest x).1 ≤ n) → (with_ticks r n rest).1 ≤ n
 with_falls (Ok x) n rest f = f x
-with_falls (Err stop) n rest f = omega arith
+with_falls (Err stop) n rest f = same n
 
 fits_falls : (strict : Bool) (v t : Tree) (n : ℕ) → (fits strict v t n).1 ≤ n
 fits_falls true v t n = identical_falls v t n
@@ -53,47 +57,69 @@ on_falls (Ok true) k n rest h f = h
 on_falls (Err stop) k n rest h f = h
 
 holds_falls : (strict : Bool) (v : Tree) (es : EntryList) (n : ℕ) → (holds strict v es n).1 ≤ n
-holds_falls strict v [] n = omega arith
+holds_falls strict v [] n = same n
 holds_falls strict v (e ∷ es) n = on_falls (fits strict v e.1 n).0 (fits strict v e.1 n).1 n (λ m. holds strict v es m) (fits_falls strict v e.1 n) (λ m. holds_falls strict v es m)
 
 minus_falls : (n k m : ℕ) → k ≤ n - m → k ≤ n
 minus_falls n k m h = omega (arith, h)
 
-replace_falls : (searches with : List LabelledText) (s : LabelledText) (n : ℕ) → (str_replace searches with s n).1 ≤ n
-replace_falls [] with s n = omega arith
-replace_falls (search ∷ searches) with s n =
-    either (nat_lt n (length s / 256)) _ _ n (omega arith)
-    (either (nat_le (length (replaced search (unwrap_or (slice_get with 0) []) s)) LONGEST) _ _ n
-    (minus_falls n _ (length s / 256) (replace_falls searches (drop 1 with) (replaced search (unwrap_or (slice_get with 0) []) s) (n - length s / 256)))
-    (minus_falls n _ (length s / 256) (omega arith)))
+less : (n m : ℕ) → n - m ≤ n
+less n m = omega arith
 
-work_falls : (b : Builtin) (ts : List Tree) (set : NumberSet) (n : ℕ) → (work_of b ts set n).1 ≤ n
-work_falls StrReplace ts set n =
-    with_falls (value_at ts 0) n _ (λ a.
-    with_falls (value_at ts 1) n _ (λ b.
-    with_falls (text_at ts 2) n _ (λ s.
-    with_falls (searches_in a) n _ (λ searched.
-    with_falls (replacements_in (is_array a) b (length searched)) n _ (λ with. replace_falls searched with s n)))))
-work_falls InArray ts set n =
+replace_falls : (searches with : List LabelledText) (s : LabelledText) (n : ℕ) → (str_replace searches with s n).1 ≤ n
+replace_falls [] with s n = same n
+replace_falls (search ∷ searches) with s n =
+    let charge : ℕ = length s / 256 in
+    let after : LabelledText = replaced search (unwrap_or (slice_get with 0) []) s in
+    either (nat_lt n charge) (Err (CallFault FuelSpent), n) (cond (nat_le (length after) LONGEST) (str_replace searches (drop 1 with) after (n - charge)) (Err (CallFault TextTooLong), n - charge)) n (same n)
+    (either (nat_le (length after) LONGEST) (str_replace searches (drop 1 with) after (n - charge)) (Err (CallFault TextTooLong), n - charge) n
+    (minus_falls n (str_replace searches (drop 1 with) after (n - charge)).1 charge (replace_falls searches (drop 1 with) after (n - charge)))
+    (less n charge))
+
+-- the two functions whose work costs ticks
+in_array_falls : (ts : List Tree) (n : ℕ) → (in_array_row ts n).1 ≤ n
+in_array_falls ts n =
     with_falls (value_at ts 0) n _ (λ v.
     with_falls (array_at ts 1) n _ (λ a. holds_falls (flag_at ts 2) v a.entries n))
-work_falls b ts set n = omega arith
+
+abbrev replaced_row : Tree → Tree → LabelledText → ℕ → Answer Tree
+replaced_row a b s n =
+    with_ticks (searches_in a) n (λ searched.
+    with_ticks (replacements_in (is_array a) b (length searched)) n (λ with.
+    let r = str_replace searched with s n in (mapped text r.0, r.1)))
+
+replaced_falls : (a b : Tree) (s : LabelledText) (n : ℕ) → (replaced_row a b s n).1 ≤ n
+replaced_falls a b s n =
+    with_falls (searches_in a) n _ (λ searched.
+    with_falls (replacements_in (is_array a) b (length searched)) n _ (λ with. replace_falls searched with s n))
+
+str_replace_falls : (ts : List Tree) (n : ℕ) → (str_replace_row ts n).1 ≤ n
+str_replace_falls ts n =
+    with_falls (value_at ts 0) n _ (λ a.
+    with_falls (value_at ts 1) n _ (λ b.
+    with_falls (text_at ts 2) n _ (λ s. replaced_falls a b s n)))
+
+work_falls : (b : Builtin) (ts : List Tree) (set : NumberSet) (n : ℕ) → (work_of b ts set n).1 ≤ n
+work_falls StrReplace ts set n = str_replace_falls ts n
+work_falls InArray ts set n = in_array_falls ts n
+work_falls b ts set n = same n
 
 given_falls : (r : Result Tree CallStop) (n : ℕ) → (given r n).1 ≤ n
-given_falls (Ok t) n = either (nat_lt n (cost t)) _ _ n (omega arith) (minus_falls n _ (cost t) (omega arith))
-given_falls (Err stop) n = omega arith
+given_falls (Ok t) n = either (nat_lt n (cost t)) (Err (CallFault FuelSpent), n) (Ok t, n - cost t) n (same n) (less n (cost t))
+given_falls (Err stop) n = same n
+
+-- what the work leaves, once its answer is charged
+charged_falls : (r : Answer Tree) (n k : ℕ) → r.1 ≤ n - k → (given r.0 r.1).1 ≤ n
+charged_falls r n k h = let g : (given r.0 r.1).1 ≤ r.1 = given_falls r.0 r.1 in omega (arith, g, h)
 
 called_falls : (b : Builtin) (ts : List Tree) (set : NumberSet) (n : ℕ) → (called b ts set n).1 ≤ n
 called_falls b ts set n =
-    either (not (is_count (sig_of b) (length ts))) _ _ n (omega arith)
-    (either (nat_lt n (sum_by cost ts)) _ _ n (omega arith)
-    (let r : Answer Tree = work_of b ts set (n - sum_by cost ts) in
-    let h : r.1 ≤ n - sum_by cost ts = work_falls b ts set (n - sum_by cost ts) in
-    let g : (given r.0 r.1).1 ≤ r.1 = given_falls r.0 r.1 in
-    omega (arith, g, h)))
+    either (not (is_count (sig_of b) (length ts))) _ _ n (same n)
+    (either (nat_lt n (sum_by cost ts)) _ _ n (same n)
+    (charged_falls (work_of b ts set (n - sum_by cost ts)) n (sum_by cost ts) (work_falls b ts set (n - sum_by cost ts))))
 
 named_falls : (o : Option Builtin) (ts : List Tree) (set : NumberSet) (n : ℕ) → (call_of o ts set n).1 ≤ n
-named_falls None ts set n = omega arith
+named_falls None ts set n = same n
 named_falls (Some b) ts set n = called_falls b ts set n
 
 below : (x : Answer Tree) (r : Result Tree CallStop) (left n : ℕ) → x ≡ (r, left) → x.1 ≤ n → left ≤ n

@@ -8,7 +8,7 @@ use Rattle.resin_base.specs.declared.calls.Calls.{Calls}
 use Rattle.resin_scalar.specs.declared.faults.CallStop.{CallStop}
 use Rattle.resin_scalar.specs.declared.faults.CallStop.TheVariants.{Throw, Fault as CallFault, Memory as CallMemory}
 use Rattle.resin_scalar.specs.declared.faults.ScriptFault.{ScriptFault}
-use Rattle.resin_scalar.specs.declared.faults.ScriptFault.TheVariants.{FuelSpent}
+use Rattle.resin_scalar.specs.declared.faults.ScriptFault.TheVariants.{BadOperand, FuelSpent}
 use Rattle.resin_value.specs.declared.value.Value.{Value}
 use Rattle.resin_value.specs.Trees.{Tree}
 use Rattle.resin_value.specs.Seen.{tree_of}
@@ -91,6 +91,10 @@ does_faulted {A = A} fault m s e f t k = rw e (does_act (faults {A = A} fault) f
 -- another program that is the same
 pub runs_as : {A : Type 0} (p q : Prog A) (m : State) (r : Result A Stop) (m' : State) → p ≡ q → Runs q m r m' → Runs p m r m'
 runs_as {A = A} p q m r m' e h = subst (λ (x : Prog A). Runs x m r m') (sym e) h
+
+-- a fault in place of a program that is one
+pub fault_there : {A : Type 0} (p : Prog A) (m : State) (s : Stop) → p ≡ faulted BadOperand → s ≡ Fault BadOperand m.line → Runs p m (Err s) m
+fault_there {A = A} p m s e fault = runs_as p (faulted BadOperand) m (Err s) m e (does_faulted {A = A} BadOperand m s fault)
 
 -- ---- want of memory, and stops handed on
 

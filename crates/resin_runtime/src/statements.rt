@@ -120,14 +120,18 @@ pub fn assign_entry(
     m.assign(x, v)
 }
 
+// Whether one of these classes fits.
+fn one_fits(m: &Machine, names: &[SharedBytes], thrown: &Value) -> bool
+    ensures { result ≡ list_any (λ name. fits name (tree_of thrown.now) m.now) names.now }
+{
+    names.iter().any(|name| fits(m, name.as_slice(), thrown))
+}
+
 /// Whether a `catch` has a class that fits.
 pub fn catches(m: &Machine, c: &Catch, thrown: &Value) -> bool
     ensures { result ≡ list_any (λ name. fits name (tree_of thrown.now) m.now) (out-Catch c.now).classes }
 {
-    c.classes
-        .as_slice()
-        .iter()
-        .any(|name| fits(m, name.as_slice(), thrown))
+    one_fits(m, c.classes.as_slice(), thrown)
 }
 
 /// How a `try` ends whose last part ended so.
