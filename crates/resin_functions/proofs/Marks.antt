@@ -1,13 +1,9 @@
 -- Functions that mark data and set filters, by what their parts answered.
-use Rattle.std.proofs.Common.{◌≡◌, ℕ, zero, suc, ◌+◌, ◌-◌, ◌<◌, ◌≤◌, List, [], ◌∷◌, ◌++◌, length, drop, get_or, map, Bool, true, false, cond, Option, None, Some, Result, Ok, Err, IsErrAnd, refl, sym, ap, subst, ◌∙◌, arith}
+use Rattle.std.proofs.Common.{◌≡◌, ℕ, zero, suc, ◌+◌, ◌-◌, ◌≤◌, List, [], ◌∷◌, length, drop, get_or, map, Bool, true, false, cond, Option, None, Some, Result, Ok, Err, refl, sym, ap, ◌∙◌, arith}
 use Rattle.std.specs.Prelude.{ℤ, slice_get, ◌&&◌}
 use Rattle.std.specs.List.{list_all}
-use Rattle.std.proofs.lemmas.Result.{err_from_is_err_and}
-use Rattle.resin_base.specs.FileStore.{FileStore}
-use Rattle.resin_base.specs.TableStore.{TableStore}
-use Rattle.resin_base.specs.declared.calls.Calls.{Calls}
 use Rattle.resin_label.proofs.Members.{numbers-of_rising, of_rising-nil}
-use Rattle.resin_label.specs.Sets.{NumberSet, numbers, set_of, insert, remove, insert_all, empty}
+use Rattle.resin_label.specs.Sets.{NumberSet, numbers, insert, remove, insert_all, empty}
 use Rattle.resin_lstr.specs.Texts.{Text as LabelledText, marked, unmarked, bytes_of}
 use Rattle.resin_scalar.specs.declared.faults.CallStop.{CallStop}
 use Rattle.resin_scalar.specs.declared.faults.ScriptFault.TheVariants.{BadOperand}
@@ -20,9 +16,9 @@ use Rattle.resin_value.specs.Seen.{tree_of, trees_of}
 use Rattle.resin_array_fn.specs.Filled.{filled, in_order}
 use Rattle.resin_journal.specs.declared.channel.Channel.{Channel}
 use Rattle.resin_heap.specs.declared.prelude.PreludeClass.{PreludeClass}
-use Rattle.resin_heap.specs.declared.prelude.PreludeClass.TheVariants.{ArgumentCountError, ValueError, TypeError, Policy, Filter}
+use Rattle.resin_heap.specs.declared.prelude.PreludeClass.TheVariants.{ArgumentCountError, ValueError, TypeError, Policy}
 use Rattle.resin_machine.specs.declared.stop.Stop.{Stop}
-use Rattle.resin_machine.specs.declared.stop.Stop.TheVariants.{Fault, Memory}
+use Rattle.resin_machine.specs.declared.stop.Stop.TheVariants.{Fault}
 use Rattle.resin_machine.specs.State.{State}
 use Rattle.resin_machine.specs.Steps.{Acts, ActsLoosely}
 use Rattle.resin_machine.specs.Objects.{settled, throw_new}
@@ -31,12 +27,12 @@ use Rattle.resin_machine.specs.Filters.{without_filter}
 use Rattle.resin_machine.specs.Leaving.{class_name_of}
 use Rattle.resin_machine.proofs.Taken.{gives_inside}
 use Rattle.resin_target.specs.Reads.{GivesOrNoMemory}
-use Rattle.resin_program.specs.Programs.{Prog, give, act, ◌>>=◌}
-use Rattle.resin_program.specs.Runs.{Seen, World, world, Does}
-use Rattle.resin_program.proofs.Composition.{does_act, does_loosely, does_next, does_stop, does_give, does_unbegun_exit}
+use Rattle.resin_program.specs.Programs.{Prog, give}
+use Rattle.resin_program.specs.Runs.{world}
+use Rattle.resin_program.proofs.Composition.{does_loosely, does_next, does_stop, does_give}
 use Rattle.resin_steps.proofs.Answered.{does_computed, does_looked}
 use Rattle.resin_evaluation.specs.Runs.{Runs, on_ok}
-use Rattle.resin_evaluation.specs.Parts.{computed, faulted, looked, thrown_new, ◌>>◌}
+use Rattle.resin_evaluation.specs.Parts.{computed, faulted, looked, thrown_new}
 use Rattle.resin_evaluation.specs.Writes.{plain}
 use Rattle.resin_evaluation.specs.Merges.{is_under, list_of_objects, objects_among, values_in, policies_in, with_answer}
 use Rattle.resin_evaluation.specs.Functions.{nameable, channel_among, channel_for, number_in, policies_of, object_under, with_policy, without_policy, seen, class_name, remove_filter, state_work}

@@ -1,5 +1,5 @@
 -- A call of a builtin function gives no ticks back, and the machine pays what it spent.
-use Rattle.std.proofs.Common.{◌≡◌, ◌≢◌, ℕ, ◌+◌, ◌-◌, ◌*◌, ◌/◌, ◌≤◌, List, [], ◌∷◌, length, drop, Bool, true, false, cond, not, Option, None, Some, Result, Ok, Err, refl, sym, ap, subst, ◌∙◌, arith}
+use Rattle.std.proofs.Common.{◌≡◌, ℕ, ◌-◌, ◌/◌, ◌≤◌, List, [], ◌∷◌, length, drop, Bool, true, false, cond, not, Option, None, Some, Result, Ok, Err, refl, sym, ap, subst, ◌∙◌, arith}
 use Rattle.std.specs.Prelude.{nat_lt, nat_le, sum_by, unwrap_or}
 use Rattle.std.specs.List.{slice_get}
 use Rattle.resin_label.specs.Sets.{NumberSet}
@@ -8,7 +8,7 @@ use Rattle.resin_scalar.specs.declared.faults.CallStop.{CallStop}
 use Rattle.resin_scalar.specs.declared.faults.CallStop.TheVariants.{Throw, Fault as CallFault, Memory as CallMemory}
 use Rattle.resin_scalar.specs.declared.faults.ScriptFault.TheVariants.{FuelSpent, TextTooLong}
 use Rattle.resin_value.specs.declared.value.Value.{Value}
-use Rattle.resin_value.specs.Trees.{Tree, boolean, text}
+use Rattle.resin_value.specs.Trees.{Tree, text}
 use Rattle.resin_value.specs.Arrays.{EntryList}
 use Rattle.resin_value.specs.Compare.{Charged}
 use Rattle.resin_value.specs.Seen.{tree_of}

@@ -1,5 +1,5 @@
 -- Declarations, by what their parts answered.
-use Rattle.std.proofs.Common.{◌≡◌, Bool, true, false, Result, Err, refl, sym, ap, subst, ◌∙◌}
+use Rattle.std.proofs.Common.{◌≡◌, Bool, true, false, Result, Err, sym, ap, ◌∙◌}
 use Rattle.resin_scalar.specs.declared.faults.ScriptFault.TheVariants.{Redeclared}
 use Rattle.resin_tree.specs.declared.declaration.Function.{Function}
 use Rattle.resin_machine.specs.declared.stop.Stop.{Stop}

@@ -1,15 +1,11 @@
 -- Loops of steps, and parts of statements, by what their parts answered.
-use Rattle.std.proofs.Common.{◌≡◌, ℕ, suc, ◌+◌, ◌<◌, ◌≤◌, List, [], ◌∷◌, ◌++◌, length, drop, get_or, map, Bool, true, false, cond, Option, None, Some, Result, Ok, Err, IsErrAnd, refl, sym, ap, subst, ◌∙◌, arith}
+use Rattle.std.proofs.Common.{◌≡◌, Result, Ok, Err, IsErrAnd, sym, subst}
 use Rattle.std.proofs.lemmas.Result.{err_from_is_err_and}
-use Rattle.resin_base.specs.FileStore.{FileStore}
-use Rattle.resin_base.specs.TableStore.{TableStore}
-use Rattle.resin_base.specs.declared.calls.Calls.{Calls}
 use Rattle.resin_machine.specs.declared.stop.Stop.{Stop}
-use Rattle.resin_machine.specs.declared.stop.Stop.TheVariants.{Memory}
 use Rattle.resin_machine.specs.State.{State}
 use Rattle.resin_program.specs.Programs.{Prog, give, ◌>>=◌}
-use Rattle.resin_program.specs.Runs.{Seen, World, world, Does}
-use Rattle.resin_program.proofs.Composition.{does_next, does_stop, does_exit, does_give}
+use Rattle.resin_program.specs.Runs.{World, world, Does}
+use Rattle.resin_program.proofs.Composition.{does_next, does_exit, does_give}
 use Rattle.resin_evaluation.specs.Runs.{Runs, on_ok}
 use Rattle.resin_runtime.proofs.Steps.{Leaves}
 

@@ -1,20 +1,20 @@
 -- Lists of values and of policies, and constants as values.
-use Rattle.std.proofs.Common.{◌≡◌, ℕ, zero, suc, ◌+◌, ◌<◌, ◌≤◌, List, [], ◌∷◌, ◌++◌, length, drop, map, Option, None, Some, Result, Ok, Err, refl, sym, ap, subst, ◌∙◌, arith}
-use Rattle.std.specs.Prelude.{slice_get}
+use Rattle.std.proofs.Common.{◌≡◌, ℕ, zero, suc, ◌+◌, List, [], ◌∷◌, ◌++◌, drop, map, Option, None, Some, Err, refl, sym, ap, subst, ◌∙◌, arith}
+use Rattle.std.specs.Prelude.{IfSome, slice_get}
 use Rattle.std.proofs.lemmas.List.{append_assoc}
 use Rattle.resin_scalar.specs.declared.faults.CallStop.{CallStop}
-use Rattle.resin_scalar.specs.declared.faults.CallStop.TheVariants.{Throw, Fault as CallFault, Memory as CallMemory}
 use Rattle.resin_value.specs.declared.value.Value.{Value}
 use Rattle.resin_value.specs.declared.key.Key.{Key}
-use Rattle.resin_value.specs.Trees.{Tree}
-use Rattle.resin_value.specs.Arrays.{Array, EntryList}
+use Rattle.resin_value.specs.Arrays.{EntryList}
 use Rattle.resin_value.specs.Seen.{tree_of, trees_of}
-use Rattle.resin_array_fn.specs.Filled.{added_at}
-use Rattle.resin_target.specs.Reads.{GivesOrNoMemory}
-use Rattle.resin_evaluation.specs.Invoke.{ItemValue, addition_of, with_item, with_items}
+use Rattle.resin_evaluation.specs.Invoke.{ItemValue, with_items}
 
 some_is : {X : Type 0} (x y : X) → ◌≡◌ {A = Option X} (Some x) (Some y) → x ≡ y
 some_is x y e = cc
+
+-- what holds of the item that is there
+pub some_there : {X : Type 0} (o : Option X) (x : X) (P : X → Type 0) → o ≡ Some x → P x → IfSome o P
+some_there {X = X} o x P e p = subst (λ (y : Option X). IfSome y P) (sym e) p
 
 none_some : {X : Type 0} (x : X) → ◌≡◌ {A = Option X} None (Some x) → ⊥
 none_some x e = cc

@@ -1,5 +1,5 @@
 -- Steps whose value is seen otherwise, looks at the state, want of memory, and loops of steps.
-use Rattle.std.proofs.Common.{◌≡◌, ◌≢◌, ℕ, ◌+◌, ◌<◌, ◌≤◌, List, [], ◌∷◌, length, drop, get_or, Bool, true, false, cond, Result, Ok, Err, inl, IsErrAnd, refl, sym, ap, subst, ◌∙◌, arith}
+use Rattle.std.proofs.Common.{◌≡◌, [], length, Bool, true, false, cond, Result, Ok, Err, inl, IsErrAnd, refl, sym, ap, subst, ◌∙◌, arith}
 use Rattle.std.proofs.lemmas.Result.{err_from_is_err_and}
 use Rattle.std.specs.Prelude.{nat_lt}
 use Rattle.resin_base.specs.FileStore.{FileStore}
@@ -8,7 +8,7 @@ use Rattle.resin_base.specs.declared.calls.Calls.{Calls}
 use Rattle.resin_scalar.specs.declared.faults.CallStop.{CallStop}
 use Rattle.resin_scalar.specs.declared.faults.CallStop.TheVariants.{Throw, Fault as CallFault, Memory as CallMemory}
 use Rattle.resin_scalar.specs.declared.faults.ScriptFault.{ScriptFault}
-use Rattle.resin_scalar.specs.declared.faults.ScriptFault.TheVariants.{BadOperand, FuelSpent}
+use Rattle.resin_scalar.specs.declared.faults.ScriptFault.TheVariants.{BadOperand}
 use Rattle.resin_value.specs.declared.value.Value.{Value}
 use Rattle.resin_value.specs.Trees.{Tree}
 use Rattle.resin_value.specs.Seen.{tree_of}
@@ -18,8 +18,8 @@ use Rattle.resin_builtin.specs.Rows.{mapped}
 use Rattle.resin_machine.specs.declared.stop.Stop.{Stop}
 use Rattle.resin_machine.specs.declared.stop.Stop.TheVariants.{Thrown, Exit, Fault, Keeper, Memory}
 use Rattle.resin_machine.specs.State.{State}
-use Rattle.resin_machine.specs.Steps.{Act, Acts, ActsLoosely, ActedLoosely, faults}
-use Rattle.resin_machine.specs.Objects.{settled, throw_new, class_of_error, last_number}
+use Rattle.resin_machine.specs.Steps.{Act, ActsLoosely, ActedLoosely, faults}
+use Rattle.resin_machine.specs.Objects.{settled, throw_new, last_number}
 use Rattle.resin_machine.proofs.Kept.{keeps_same}
 use Rattle.resin_target.specs.Reads.{GivesOrNoMemory}
 use Rattle.resin_program.specs.Programs.{Prog, give, act, ◌>>=◌}
@@ -27,7 +27,7 @@ use Rattle.resin_program.specs.Runs.{Seen, World, world, Does, Leads}
 use Rattle.resin_program.proofs.Composition.{does_act, does_loosely, does_next, does_stop, does_give, does_nothing, leads_here}
 use Rattle.resin_steps.proofs.Answered.{does_computed}
 use Rattle.resin_evaluation.specs.Runs.{Runs, on_ok}
-use Rattle.resin_evaluation.specs.Parts.{computed, faulted, looked, thrown_new}
+use Rattle.resin_evaluation.specs.Parts.{computed, faulted, thrown_new}
 
 -- ---- a value seen otherwise
 

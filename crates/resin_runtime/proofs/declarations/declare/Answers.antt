@@ -1,6 +1,5 @@
 use Rattle.resin_program.proofs.Composition.{does_act, does_give}
 use Rattle.resin_program.proofs.Enclosures.{does_on_line}
-use Rattle.std.proofs.Common.{◌-◌}
 use Rattle.resin_runtime.proofs.declarations.declare.Goals as goal
 
 pub returns-in-Function : goal.returns-in-Function

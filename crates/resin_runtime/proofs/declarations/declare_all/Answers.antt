@@ -2,7 +2,7 @@ use Rattle.resin_evaluation.specs.Programs.{declare, declare_all}
 use Rattle.resin_program.proofs.Composition.{front, nothing_left}
 use Rattle.resin_runtime.proofs.Loops.{leaves_done, leaves_next, leaves_stop}
 use Rattle.resin_runtime.proofs.Steps.{leaves_here}
-use Rattle.std.proofs.Common.{ap, arith, drop, ◌+◌, ◌-◌}
+use Rattle.std.proofs.Common.{ap, arith, drop, ◌+◌}
 use Rattle.resin_runtime.proofs.declarations.declare_all.Goals as goal
 
 pub loop-item-init : goal.loop-item-init

@@ -1,6 +1,6 @@
 use Rattle.resin_program.proofs.Composition.{does_act, does_give}
 use Rattle.resin_runtime.proofs.Steps.{does_lost_act}
-use Rattle.std.proofs.Common.{sym, ◌-◌}
+use Rattle.std.proofs.Common.{sym}
 use Rattle.resin_runtime.proofs.statements.assign_key.Goals as goal
 
 pub returns-in_default : goal.returns-in_default

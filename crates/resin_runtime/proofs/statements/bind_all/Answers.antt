@@ -5,7 +5,7 @@ use Rattle.resin_program.proofs.Composition.{does_act, front, nothing_left}
 use Rattle.resin_program.specs.Programs.{act}
 use Rattle.resin_runtime.proofs.Loops.{leaves_done, leaves_next, leaves_stop}
 use Rattle.resin_runtime.proofs.Steps.{leaves_here}
-use Rattle.std.proofs.Common.{ap, arith, drop, ◌+◌, ◌-◌}
+use Rattle.std.proofs.Common.{ap, arith, drop, ◌+◌}
 use Rattle.resin_runtime.proofs.statements.bind_all.Goals as goal
 
 pub loop-name-init : goal.loop-name-init

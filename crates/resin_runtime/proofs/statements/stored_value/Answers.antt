@@ -1,5 +1,4 @@
 use Rattle.resin_program.proofs.Composition.{does_exit, does_give, does_loosely, does_next, does_unbegun_exit}
-use Rattle.std.proofs.Common.{◌-◌}
 use Rattle.resin_runtime.proofs.statements.stored_value.Goals as goal
 
 pub returns-in_err-answer : goal.returns-in_err-answer
@@ -12,4 +11,4 @@ returns-in_err-store c =
 
 pub returns : goal.returns
 returns c =
-    λ f t k. rw c.in_ok-answer.ensures (does_next _ _ (does_loosely _ f t k c.in_ok-store.ensures.acts) (does_give _ _))
+    rw c.in_ok-answer.ensures.cases (λ f t k. does_next _ _ (does_loosely _ f t k c.in_ok-store.ensures.acts) (does_give _ _))

@@ -1,7 +1,7 @@
 use Rattle.resin_program.proofs.Composition.{does_ended, does_next, none_here}
 use Rattle.resin_runtime.proofs.Steps.{does_faulted}
 use Rattle.resin_steps.proofs.Answered.{does_looked}
-use Rattle.std.proofs.Common.{false, true, ◌-◌}
+use Rattle.std.proofs.Common.{false, true}
 use Rattle.resin_runtime.proofs.statements.throw.Goals as goal
 
 pub returns : goal.returns

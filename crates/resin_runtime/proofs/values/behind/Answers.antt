@@ -1,5 +1,4 @@
 use Rattle.resin_steps.proofs.Answered.{does_computed}
-use Rattle.std.proofs.Common.{◌-◌}
 use Rattle.resin_runtime.proofs.values.behind.Goals as goal
 
 pub returns : goal.returns

@@ -5,15 +5,25 @@ use Rattle.resin_ops.specs.Conversions.{text_of}
 use Rattle.resin_program.proofs.Composition.{does_unbegun_exit, front, nothing_left}
 use Rattle.resin_program.specs.Programs.{◌>>=◌}
 use Rattle.resin_runtime.proofs.Loops.{leaves_done, leaves_next, leaves_stop}
-use Rattle.resin_runtime.proofs.Steps.{leaves_here}
+use Rattle.resin_runtime.proofs.Steps.{does_lost_give, leaves_here}
 use Rattle.resin_steps.proofs.Answered.{does_computed, gives_or}
 use Rattle.resin_value.specs.Seen.{tree_of, trees_of}
-use Rattle.std.proofs.Common.{ap, drop, refl, ◌+◌, ◌-◌}
+use Rattle.resin_lstr.specs.Texts.{Text as LabelledText}
+use Rattle.resin_machine.specs.declared.stop.Stop.{Stop}
+use Rattle.resin_machine.specs.declared.stop.Stop.TheVariants.{Memory}
+use Rattle.resin_program.specs.Runs.{Does, World}
+use Rattle.resin_value.specs.Trees.{Tree}
+use Rattle.std.proofs.Common.{ap, drop, refl, List, [], ◌∷◌, Result, IsErrAnd, ◌+◌, ◌≡◌}
 use Rattle.resin_runtime.proofs.values.texts_joined.Goals as goal
+
+-- want of memory before the first text
+none_joined : (text : LabelledText) (ts : List Tree) {w : World} (r : Result LabelledText Stop) → IsErrAnd r (λ e. e ≡ Memory) → Does (joined text ts) w r w
+none_joined text [] r h = does_lost_give text r h
+none_joined text (t ∷ ts) r h = does_unbegun_exit _ _ r h
 
 pub returns-in_err-text : goal.returns-in_err-text
 returns-in_err-text c =
-    λ f t k. does_unbegun_exit _ _ _ c.from_residual.ensures.1
+    λ f t k. none_joined [] (trees_of c.args.vs.now) c.from_residual.result c.from_residual.ensures.1
 
 pub loop-v-init : goal.loop-v-init
 loop-v-init c =

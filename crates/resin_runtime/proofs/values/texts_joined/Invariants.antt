@@ -1,7 +1,7 @@
 use Rattle.resin_evaluation.specs.Expressions.{joined}
 use Rattle.resin_runtime.proofs.Steps.{Leaves}
 use Rattle.resin_value.specs.Seen.{trees_of}
-use Rattle.std.proofs.Common.{[], drop, ◌-◌}
+use Rattle.std.proofs.Common.{[], drop}
 use Rattle.resin_runtime.proofs.values.texts_joined.Given as goal
 
 abbrev pub invariant-loop-v : goal.invariant-loop-v
