@@ -1,0 +1,2 @@
+pub mod ConstantValues
+pub mod Found

@@ -1,0 +1,11 @@
+use Rattle.resin_evaluation.specs.Calls.{set_properties}
+use Rattle.resin_heap.specs.Classes.{own_properties}
+use Rattle.resin_program.specs.KeeperCalls.{kept}
+use Rattle.resin_runtime.proofs.Steps.{Leaves}
+use Rattle.std.proofs.Common.{drop, ◌-◌, ◌≡◌}
+use Rattle.std.specs.List.{flat_map}
+use Rattle.resin_objects.proofs.objects.with_properties.Given as goal
+
+abbrev pub invariant-loop-c : goal.invariant-loop-c
+invariant-loop-c l =
+    record { goes : Leaves (set_properties l.o (flat_map (own_properties l.initial.m.classes) l.line)) l.initial.m (set_properties l.o (flat_map (own_properties l.initial.m.classes) (drop l.c-index l.line))) l.m; kept : l.m.classes ≡ l.initial.m.classes }

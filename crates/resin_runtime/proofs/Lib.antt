@@ -1,0 +1,4 @@
+pub mod Declares
+pub mod Loops
+pub mod Pure
+pub mod Steps
