@@ -13,6 +13,7 @@ use Rattle.resin_scalar.specs.declared.faults.CallStop.{CallStop}
 use Rattle.resin_scalar.specs.declared.faults.CallStop.TheVariants.{Throw, Fault as CallFault, Memory as CallMemory}
 use Rattle.resin_scalar.specs.declared.faults.ScriptFault.TheVariants.{UndefinedMethod, UndefinedClass, BadOperand}
 use Rattle.resin_value.specs.declared.value.Value.{Value}
+use Rattle.resin_value.specs.declared.value.Value.TheVariants.{Null, Int, Text, Arr, Obj, Bool as Truth}
 use Rattle.resin_value.specs.Trees.{Tree}
 use Rattle.resin_value.specs.Seen.{tree_of}
 use Rattle.resin_value.specs.Values.{value_of, value_of-tree_of}
@@ -38,7 +39,7 @@ use Rattle.resin_steps.proofs.Answered.{does_looked}
 use Rattle.resin_evaluation.specs.Runs.{Runs, on_ok}
 use Rattle.resin_evaluation.specs.Parts.{faulted, looked, ◌>>◌}
 use Rattle.resin_evaluation.specs.Invoke.{Method, argument_for, bind, first_of, behind_first, declared_at, method_named, or_undefined, find_method}
-use Rattle.resin_evaluation.specs.Calls.{class_to_make, makeable, or_orphan, parent_class, set_property, set_properties, with_properties}
+use Rattle.resin_evaluation.specs.Calls.{class_to_make, makeable, object_of, or_orphan, parent_class, set_property, set_properties, with_properties}
 use Rattle.resin_objects.specs.Beginnings.{Begins}
 use Rattle.resin_runtime.proofs.Steps.{Leaves, does_faulted}
 
@@ -229,6 +230,16 @@ assigning_stops ps vs i p v whole m0 m m1 m2 s r lt at h l a b f t k =
     (rw (front ps i p lt at)
     (does_next (argument_for p (first_of (drop i vs))) (assigned_then (drop (i + 1) ps) (behind_first (drop i vs)) p) (rw (first_at vs i) (a f t k))
     (does_stop (act (assign p.name v)) (λ u. bind (drop (i + 1) ps) (behind_first (drop i vs))) (does_act (assign p.name v) f t k b)))))
+
+-- ---- objects
+
+pub no_object : (v : Value) → ((o : ℕ) → v ≡ Obj o → ⊥) → ◌≡◌ {A = Prog ℕ} (object_of v) (faulted BadOperand)
+no_object Null h = refl
+no_object (Truth b) h = refl
+no_object (Int n s) h = refl
+no_object (Text t) h = refl
+no_object (Arr a) h = refl
+no_object (Obj o) h = absurd (h o refl)
 
 -- ---- classes that are named
 
