@@ -1,9 +1,9 @@
 -- Cuts of header lines.
-use Rattle.std.proofs.Common.{◌≡◌, ℕ, suc, ◌+◌, ◌-◌, ◌<◌, ◌≤◌, ltb, List, [], ◌∷◌, ◌++◌, length, take, drop, get_or, Bool, true, false, ◌||◌, cond, not, Option, None, Some, refl, sym, ap, ◌∙◌, arith}
+use Rattle.std.proofs.Common.{◌≡◌, ℕ, suc, ◌+◌, ◌-◌, ◌<◌, ltb, List, [], ◌∷◌, length, take, drop, Bool, true, false, ◌||◌, cond, not, Option, None, Some, refl, sym, ap, ◌∙◌, arith}
 use Rattle.std.specs.Prelude.{◌==◌, ◌&&◌, nat_lt, reverse}
-use Rattle.std.specs.List.{list_any, prefix_len, position_or_len, before_first, after_first}
+use Rattle.std.specs.List.{list_any, position_or_len, before_first, after_first}
 use Rattle.std.proofs.lemmas.Bool.Decides.{nat_tests}
-use Rattle.std.proofs.lemmas.List.{reverse-append, reverse-reverse, take_rest, take_more, drop_all}
+use Rattle.std.proofs.lemmas.List.{take_rest, drop_all}
 use Rattle.resin_bytes.proofs.Counts.{some_place, no_place}
 use Rattle.resin_bytes.specs.declared.header.Header.{Header}
 use Rattle.resin_stage.specs.Lines.{is_colon, is_settable, skip_spaces, trimmed, header_line}

@@ -1,12 +1,11 @@
 -- Steps of writes that leave, by what their parts answered.
-use Rattle.std.proofs.Common.{◌≡◌, ◌≢◌, ℕ, suc, ◌+◌, ◌<◌, ◌≤◌, List, [], ◌∷◌, ◌++◌, length, drop, get_or, Bool, true, false, cond, not, ◌||◌, ◌&&◌, Option, None, Some, Result, Ok, Err, IsErrAnd, refl, sym, ap, subst, ◌∙◌, arith}
+use Rattle.std.proofs.Common.{◌≡◌, ℕ, suc, ◌+◌, ◌<◌, List, [], ◌∷◌, ◌++◌, length, drop, get_or, Bool, true, false, cond, not, ◌||◌, Option, None, Some, Result, Ok, Err, refl, sym, ap, subst, ◌∙◌, arith}
 use Rattle.std.specs.Prelude.{◌==◌, nat_eq, nat_lt, unwrap_or, IsTrue, OnOk, option_map}
 use Rattle.std.specs.List.{list_any, filter, flat_map, position, position_or_len, prefix_len}
 use Rattle.std.proofs.Math.Seq.{drop-cons}
 use Rattle.std.proofs.lemmas.Bool.Decides.{nat_tests}
 use Rattle.std.proofs.lemmas.List.Folds.{list_any-append}
 use Rattle.std.proofs.lemmas.List.Sums.{passes_at_first}
-use Rattle.std.proofs.lemmas.Result.{err_from_is_err_and}
 use Rattle.resin_bytes.specs.declared.header.Header.{Header as HeaderField}
 use Rattle.resin_label.specs.Sets.{NumberSet, contains, numbers, empty as no_labels}
 use Rattle.resin_label.proofs.Members.{contains-numbers}
@@ -19,17 +18,17 @@ use Rattle.resin_heap.specs.declared.prelude.PreludeClass.TheVariants.{ValueErro
 use Rattle.resin_machine.specs.declared.stop.Stop.{Stop}
 use Rattle.resin_machine.specs.declared.stop.Stop.TheVariants.{Thrown, Exit, Fault, Keeper, Memory}
 use Rattle.resin_machine.specs.State.{State}
-use Rattle.resin_machine.specs.Steps.{Act, Acts, ActsLoosely, ActedLoosely}
+use Rattle.resin_machine.specs.Steps.{Acts, ActsLoosely, ActedLoosely}
 use Rattle.resin_machine.specs.Objects.{throw_new, last_number}
 use Rattle.resin_machine.specs.Leaving.{pass, deny, send_header, IsUnderWay}
 use Rattle.resin_stage.proofs.Laws.{open_passed}
-use Rattle.resin_program.specs.Programs.{Prog, give, stop, act, ended, ◌>>=◌}
-use Rattle.resin_program.specs.Runs.{Seen, World, world, Does}
+use Rattle.resin_program.specs.Programs.{Prog, give, stop, act, ◌>>=◌}
+use Rattle.resin_program.specs.Runs.{world}
 use Rattle.resin_program.specs.LeavingWrites.{judged}
 use Rattle.resin_program.proofs.Composition.{does_act, does_loosely, does_next, does_stop, does_give, does_ended, none_here}
-use Rattle.resin_evaluation.specs.Runs.{Runs, on_ok}
+use Rattle.resin_evaluation.specs.Runs.{Runs}
 use Rattle.resin_evaluation.specs.Parts.{thrown_new, ◌>>◌}
-use Rattle.resin_evaluation.specs.Writes.{chain_for, channel_of, header_or_throw, sent}
+use Rattle.resin_evaluation.specs.Writes.{chain_for, channel_of, header_or_throw}
 use Rattle.resin_evaluation.specs.declared.outgoing.Outgoing.{Outgoing}
 use Rattle.resin_evaluation.specs.declared.outgoing.Outgoing.TheVariants.{Page, Header as HeaderLine, Status, Mail}
 use Rattle.resin_scope.specs.Chained.{chain_of}

@@ -13,12 +13,12 @@ ghost use Rattle.resin_value.specs.declared.key.Key.{Key as AnyKey};
 ghost use Rattle.std.specs.Prelude.{IfOk, IsTrue, List, OnOk, [], codes, false, unwrap_or, ℕ, ◌++◌, ◌<◌, ◌∷◌, ◌≡◌};
 
 use crate::headers::header_line;
-use resin_runtime::values::behind;
 use resin_evaluation::Outgoing;
 use resin_heap::PreludeClass;
 use resin_journal::Channel;
 use resin_lstr::LText;
 use resin_machine::{Machine, Stop};
+use resin_runtime::values::behind;
 use resin_steps::reads::plain;
 use resin_value::{Arr, Key, KeyText, Value};
 use std::alloc::{AllocError, Global};
@@ -41,7 +41,7 @@ pub fn chain_for(alloc: Global, m: &Machine, what: &Outgoing) -> Result<Vec<u32>
 {
     match what {
         Outgoing::Status(_) => Ok(Vec::new(alloc)),
-        _ => m.chains().chain(channel_of(what)).to_vec(alloc),
+        _ => Ok(m.chains().chain(channel_of(what)).to_vec(alloc)?),
     }
 }
 

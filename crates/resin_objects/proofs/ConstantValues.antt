@@ -1,5 +1,5 @@
 -- Values of constant expressions, one level at a time.
-use Rattle.std.proofs.Common.{◌≡◌, ℕ, ◌+◌, ◌<◌, List, [], ◌∷◌, length, drop, get_or, map, Option, None, Some, Result, Ok, Err, IsErrAnd, refl, sym, ap, subst, ◌∙◌}
+use Rattle.std.proofs.Common.{◌≡◌, ℕ, ◌+◌, ◌<◌, List, length, drop, get_or, map, Option, None, Some, Result, Ok, Err, IsErrAnd, refl, sym, ap, subst, ◌∙◌}
 use Rattle.std.proofs.lemmas.Result.{err_from_is_err_and}
 use Rattle.resin_scalar.specs.declared.faults.CallStop.{CallStop}
 use Rattle.resin_scalar.specs.declared.faults.CallStop.TheVariants.{Throw, Fault as CallFault, Memory as CallMemory}

@@ -1,18 +1,16 @@
 -- Methods that are found, parameters that are bound, and objects that are made.
-use Rattle.std.proofs.Common.{◌≡◌, ℕ, zero, suc, ◌+◌, ◌<◌, ◌≤◌, List, [], ◌∷◌, ◌++◌, length, drop, take, get_or, map, reverse, Bool, true, false, cond, Option, None, Some, Result, Ok, Err, IsErrAnd, refl, sym, ap, subst, ◌∙◌, arith}
+use Rattle.std.proofs.Common.{◌≡◌, ℕ, zero, suc, ◌+◌, ◌<◌, ◌≤◌, List, [], ◌∷◌, ◌++◌, length, drop, take, get_or, reverse, Bool, true, false, cond, Option, None, Some, Result, Ok, Err, inl, IsErrAnd, refl, sym, ap, subst, ◌∙◌, arith}
 use Rattle.std.specs.Prelude.{slice_get, nat_eq, nat_lt, OnOk}
 use Rattle.std.proofs.lemmas.Bool.Decides.{nat_tests}
 use Rattle.std.specs.List.{flat_map}
 use Rattle.std.specs.Option.{option_map, option_map_or, option_and_then}
 use Rattle.std.proofs.lemmas.Result.{err_from_is_err_and}
 use Rattle.std.proofs.lemmas.List.{drop_all}
-use Rattle.resin_base.specs.FileStore.{FileStore}
-use Rattle.resin_base.specs.TableStore.{TableStore}
-use Rattle.resin_base.specs.declared.calls.Calls.{Calls}
 use Rattle.resin_scalar.specs.declared.faults.CallStop.{CallStop}
 use Rattle.resin_scalar.specs.declared.faults.CallStop.TheVariants.{Throw, Fault as CallFault, Memory as CallMemory}
 use Rattle.resin_scalar.specs.declared.faults.ScriptFault.TheVariants.{UndefinedMethod, UndefinedClass, BadOperand}
 use Rattle.resin_value.specs.declared.value.Value.{Value}
+use Rattle.resin_value.specs.declared.value.Value.TheVariants.{Null, Int, Text, Arr, Obj, Bool as Truth}
 use Rattle.resin_value.specs.Trees.{Tree}
 use Rattle.resin_value.specs.Seen.{tree_of}
 use Rattle.resin_value.specs.Values.{value_of, value_of-tree_of}
@@ -20,7 +18,7 @@ use Rattle.resin_tree.specs.declared.declaration.ClassDecl.{ClassDecl}
 use Rattle.resin_tree.specs.declared.declaration.Function.{Function}
 use Rattle.resin_tree.specs.declared.declaration.Parameter.{Parameter}
 use Rattle.resin_tree.specs.declared.declaration.Property.{Property}
-use Rattle.resin_heap.specs.Classes.{Table, line, line_within, parent_in, parent_of, methods_of, find_method as find_in, first_method, method_of, function_at, own_properties, properties_of}
+use Rattle.resin_heap.specs.Classes.{Table, line, line_within, parent_in, parent_of, find_method as find_in, first_method, method_of, function_at, own_properties, properties_of}
 use Rattle.resin_heap.specs.Objects.{with_field}
 use Rattle.resin_heap.specs.declared.classes.MethodAt.{MethodAt}
 use Rattle.resin_machine.specs.declared.stop.Stop.{Stop}
@@ -32,15 +30,16 @@ use Rattle.resin_heap.specs.Prelude.{number_of}
 use Rattle.resin_heap.specs.declared.prelude.PreludeClass.TheVariants.{Throwable}
 use Rattle.resin_machine.specs.Objects.{find_class_of, is_object, make_object, set_field, settled, last_number, with_fields_of}
 use Rattle.resin_program.specs.Programs.{Prog, give, act, ◌>>=◌}
-use Rattle.resin_program.specs.Runs.{Seen, World, world, Does, Leads}
-use Rattle.resin_program.proofs.Composition.{does_act, does_next, does_stop, does_give, front, front_number}
+use Rattle.resin_program.specs.Runs.{World, world, Does}
+use Rattle.resin_program.proofs.Composition.{does_act, does_next, does_stop, does_give, does_nothing, does_unbegun, front, front_number, nothing_left}
 use Rattle.resin_steps.proofs.Answered.{does_looked}
 use Rattle.resin_evaluation.specs.Runs.{Runs, on_ok}
 use Rattle.resin_evaluation.specs.Parts.{faulted, looked, ◌>>◌}
 use Rattle.resin_evaluation.specs.Invoke.{Method, argument_for, bind, first_of, behind_first, declared_at, method_named, or_undefined, find_method}
-use Rattle.resin_evaluation.specs.Calls.{class_to_make, makeable, or_orphan, parent_class, set_property, set_properties, with_properties}
+use Rattle.resin_evaluation.specs.Calls.{class_to_make, makeable, object_of, or_orphan, parent_class, set_property, set_properties, with_properties}
 use Rattle.resin_objects.specs.Beginnings.{Begins}
-use Rattle.resin_runtime.proofs.Steps.{Leaves, does_faulted}
+use Rattle.resin_runtime.proofs.Loops.{leaves_done}
+use Rattle.resin_runtime.proofs.Steps.{Leaves, leaves_here, does_faulted}
 
 slice_past : {X : Type 0} (xs : List X) (i : ℕ) → length xs ≤ i → slice_get xs i ≡ None
 slice_past [] i h = refl
@@ -169,6 +168,42 @@ class_stops o table cs i c whole m0 m m' s lt at kept l b f t k =
     (subst (λ (x : Table). Does (set_properties o (own_properties x c ++ flat_map (own_properties table) (drop (i + 1) cs))) (world m f t k) (Err s) (world m' f t k)) kept
     (b (flat_map (own_properties table) (drop (i + 1) cs)) f t k)))
 
+-- want of memory before the properties of a list are set
+pub properties_unbegun : (o : ℕ) (ps : List Property) (m : State) → Runs (set_properties o ps) m (Err Memory) m
+properties_unbegun o [] m f t k = does_nothing {A = Unit {0}} (give tt) (λ failing at. inl refl)
+properties_unbegun o (p ∷ ps) m f t k = does_unbegun (set_property o p) (λ u. set_properties o ps)
+
+-- a class that isn't declared has none
+pub none_begun : (o : ℕ) (t : Table) (c : ℕ) (rest : List Property) (m : State) → length t ≤ c → Begins {B = Unit {0}} (set_properties o (own_properties t c ++ rest)) (set_properties o rest) m (Ok tt) m
+none_begun o t c rest m h =
+    subst (λ (ps : List Property). Leaves (set_properties o (ps ++ rest)) m (set_properties o rest) m) (sym (no_own t c h)) (leaves_here (set_properties o rest) m)
+
+-- all that a class declares are set
+pub own_begun : (o : ℕ) (t : Table) (c : ℕ) (ps : List Property) (i : ℕ) (rest : List Property) (m m' : State) → length ps ≤ i → ps ≡ own_properties t c
+    → Leaves (set_properties o (ps ++ rest)) m (set_properties o (drop i ps ++ rest)) m' → Begins {B = Unit {0}} (set_properties o (own_properties t c ++ rest)) (set_properties o rest) m (Ok tt) m'
+own_begun o t c ps i rest m m' le is l =
+    subst (λ (qs : List Property). Leaves (set_properties o (qs ++ rest)) m (set_properties o rest) m') is
+    (subst (λ (ds : List Property). Leaves (set_properties o (ps ++ rest)) m (set_properties o (ds ++ rest)) m') (nothing_left ps i le) l)
+
+-- one of them stops
+pub own_stops : (o : ℕ) (t : Table) (c : ℕ) (ps : List Property) (i : ℕ) (p : Property) (rest : List Property) (m0 m m' : State) (s : Stop) (r : Result (Unit {0}) Stop) → i < length ps → p ≡ get_or ps i p → IsErrAnd r (λ e. e ≡ s)
+    → ps ≡ own_properties t c → Leaves (set_properties o (ps ++ rest)) m0 (set_properties o (drop i ps ++ rest)) m → Runs (set_property o p) m (Err s) m'
+    → Begins (set_properties o (own_properties t c ++ rest)) (set_properties o rest) m0 r m'
+own_stops o t c ps i p rest m0 m m' s r lt at h is l d =
+    begun_err (set_properties o (own_properties t c ++ rest)) (set_properties o rest) m0 r s m' h
+    (subst (λ (qs : List Property). Runs (set_properties o (qs ++ rest)) m0 (Err s) m') is (property_stops o ps i p rest (set_properties o (ps ++ rest)) m0 m m' s lt at l d))
+
+-- the properties along a line of classes
+pub line_properties : (t : Table) (c : ℕ) (cs : List ℕ) → cs ≡ reverse (line t c) → flat_map (own_properties t) cs ≡ properties_of t c
+unfolding properties_of
+line_properties t c cs e = ap (flat_map (own_properties t)) e
+
+-- all classes of a line are done
+pub classes_done : (o : ℕ) (t : Table) (cs : List ℕ) (i : ℕ) (m m' : State) → length cs ≤ i → Leaves (set_properties o (flat_map (own_properties t) cs)) m (set_properties o (flat_map (own_properties t) (drop i cs))) m'
+    → Runs (set_properties o (flat_map (own_properties t) cs)) m (Ok tt) m'
+classes_done o t cs i m m' le l =
+    leaves_done (set_properties o (flat_map (own_properties t) cs)) (set_properties o (flat_map (own_properties t) (drop i cs))) tt m m' (ap (λ xs. set_properties o (flat_map (own_properties t) xs)) (nothing_left cs i le)) l
+
 -- a new object, once its properties are set
 abbrev furnished : ℕ → ℕ → Prog ℕ
 furnished class o = looked (λ m. properties_of m.classes class) >>= λ properties. (set_properties o properties >> give o)
@@ -229,6 +264,16 @@ assigning_stops ps vs i p v whole m0 m m1 m2 s r lt at h l a b f t k =
     (rw (front ps i p lt at)
     (does_next (argument_for p (first_of (drop i vs))) (assigned_then (drop (i + 1) ps) (behind_first (drop i vs)) p) (rw (first_at vs i) (a f t k))
     (does_stop (act (assign p.name v)) (λ u. bind (drop (i + 1) ps) (behind_first (drop i vs))) (does_act (assign p.name v) f t k b)))))
+
+-- ---- objects
+
+pub no_object : (v : Value) → ((o : ℕ) → v ≡ Obj o → ⊥) → ◌≡◌ {A = Prog ℕ} (object_of v) (faulted BadOperand)
+no_object Null h = refl
+no_object (Truth b) h = refl
+no_object (Int n s) h = refl
+no_object (Text t) h = refl
+no_object (Arr a) h = refl
+no_object (Obj o) h = absurd (h o refl)
 
 -- ---- classes that are named
 

@@ -3,7 +3,7 @@ ghost use Rattle.resin_evaluation.specs.Invoke.{argument_for, bind, default_valu
 ghost use Rattle.resin_evaluation.specs.Runs.{Runs, on_ok};
 ghost use Rattle.resin_objects.specs.Methods.{seen_method};
 ghost use Rattle.std.specs.Option.{option_copied, option_map};
-ghost use Rattle.std.specs.Prelude.{IfOk, ◌≡◌};
+ghost use Rattle.std.specs.Prelude.{IfOk, slice_get, ◌≡◌};
 
 use crate::constants::constant_value;
 use resin_evaluation::Course;
@@ -23,6 +23,13 @@ fn default_value(alloc: Global, m: &mut Machine, p: &Parameter) -> Result<Value,
         Some(c) => constant_value(alloc, m, c),
         None => m.throw(PreludeClass::ArgumentCountError, b""),
     }
+}
+
+// The argument at a place, where one is given.
+fn given_at(values: &[Value], i: usize) -> Option<&Value>
+    ensures { option_copied result ≡ slice_get values.now i }
+{
+    values.get(i)
 }
 
 // The value of a parameter: its argument, or what stands for one that isn't given.
@@ -51,11 +58,9 @@ pub fn bind(
     ensures { Runs (bind parameters.now args) m.old result m.new }
 {
     let values = args.as_slice();
-    let mut i = 0;
-    while i < parameters.len() {
-        let v = argument_for(alloc, m, &parameters[i], values.get(i))?;
-        m.assign(parameters[i].name.as_slice(), v)?;
-        i += 1;
+    for (i, p) in parameters.iter().enumerate() {
+        let v = argument_for(alloc, m, p, given_at(values, i))?;
+        m.assign(p.name.as_slice(), v)?;
     }
     Ok(())
 }

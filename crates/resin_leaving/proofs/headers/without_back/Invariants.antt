@@ -1,4 +1,4 @@
-use Rattle.std.proofs.Common.{◌≡◌, ℕ, ◌≤◌, length, take}
+use Rattle.std.proofs.Common.{◌≡◌, ◌≤◌, length, take}
 use Rattle.resin_leaving.proofs.HeaderLines.{without_back}
 use Rattle.resin_leaving.proofs.headers.without_back.Given as goal
 

@@ -1,5 +1,5 @@
 use Rattle.resin_leaving.proofs.Writes.{carried_range}
-use Rattle.std.proofs.Common.{ap, sym, ◌-◌, ◌∙◌}
+use Rattle.std.proofs.Common.{ap, sym, ◌∙◌}
 use Rattle.std.specs.Prelude.{unwrap_or}
 use Rattle.resin_leaving.proofs.leaving.carrying_run.Goals as goal
 

@@ -1,5 +1,4 @@
 use Rattle.resin_program.proofs.Composition.{does_exit, does_next, does_unbegun_exit}
-use Rattle.std.proofs.Common.{◌-◌}
 use Rattle.resin_leaving.proofs.leaving.joined_mail.Goals as goal
 
 pub returns-in_err-line : goal.returns-in_err-line

@@ -1,7 +1,6 @@
 use Rattle.resin_program.proofs.Composition.{does_act}
 use Rattle.resin_runtime.proofs.Steps.{does_handed}
 use Rattle.resin_leaving.proofs.Writes.{denial_stops, denied, passes_on}
-use Rattle.std.proofs.Common.{◌-◌}
 use Rattle.resin_leaving.proofs.leaving.judge.Goals as goal
 
 pub returns-in-Ok-clause-does : goal.returns-in-Ok-clause-does
@@ -14,8 +13,8 @@ returns-in-Ok-clause-passed c =
 
 pub returns-in_err-deny-in-Err-clause-does : goal.returns-in_err-deny-in-Err-clause-does
 returns-in_err-deny-in-Err-clause-does c =
-    rw c.in-Err.is (λ f t k. does_handed _ _ c.from_residual.ensures.1 (denial_stops c.args.write c.args.policy c.in-Err.thrown c.args.channel c.args.text.now c.carrying_run.result _ _ _ c.carrying_run.ensures.value c.in_err-deny-in-Err.ensures.acts f t k))
+    rw c.in-Err.is (λ f t k. does_handed _ _ c.from_residual.ensures.1 (denial_stops c.args.write c.args.policy c.in-Err.thrown c.args.channel c.args.text.now c.carrying_run-from.result _ _ _ c.carrying_run-from.ensures.value c.in_err-deny-in-Err.ensures.acts f t k))
 
 pub returns-in_ok-deny-in-Err-clause-does : goal.returns-in_ok-deny-in-Err-clause-does
 returns-in_ok-deny-in-Err-clause-does c =
-    rw c.in-Err.is (denied c.args.write c.args.policy c.in-Err.thrown c.args.channel c.args.text.now c.carrying_run.result _ _ c.carrying_run.ensures.value c.in_ok-deny-in-Err.ensures.acts)
+    rw c.in-Err.is (denied c.args.write c.args.policy c.in-Err.thrown c.args.channel c.args.text.now c.carrying_run-from.result _ _ c.carrying_run-from.ensures.value c.in_ok-deny-in-Err.ensures.acts)

@@ -1,5 +1,5 @@
-use Rattle.resin_program.proofs.Composition.{does_give}
-use Rattle.std.proofs.Common.{◌-◌}
+use Rattle.resin_program.proofs.Composition.{does_give, does_unbegun_exit}
+use Rattle.resin_leaving.proofs.Writes.{line_passes, line_throws}
 use Rattle.resin_leaving.proofs.leaving.prepare.Goals as goal
 
 pub returns-in-Page : goal.returns-in-Page
@@ -9,6 +9,18 @@ returns-in-Page c =
 pub returns-in-Status : goal.returns-in-Status
 returns-in-Status c =
     rw c.in-Status.is (λ f t k. does_give _ _)
+
+pub returns-in_err-header_line-in-Header : goal.returns-in_err-header_line-in-Header
+returns-in_err-header_line-in-Header c =
+    rw c.in-Header.is (λ f t k. does_unbegun_exit _ _ _ c.from_residual.ensures.1)
+
+pub returns-in-Some : goal.returns-in-Some
+returns-in-Some c =
+    rw c.in-Header.is (line_passes c.args.text _ _ _ (rw c.bytes.ensures at c.in_ok-header_line-in-Header.ensures) c.in-Some.is)
+
+pub returns-in-None : goal.returns-in-None
+returns-in-None c =
+    rw c.in-Header.is (line_throws c.args.text _ _ _ _ (rw c.bytes.ensures at c.in_ok-header_line-in-Header.ensures) c.in-None.is c.throw.ensures.acts)
 
 pub returns-in-Mail : goal.returns-in-Mail
 returns-in-Mail c =

@@ -1,5 +1,5 @@
 use Rattle.resin_objects.proofs.Found.{no_parent}
-use Rattle.std.proofs.Common.{ap, arith, length, ◌-◌}
+use Rattle.std.proofs.Common.{ap, arith, length}
 use Rattle.resin_objects.proofs.calls.class_above.Goals as goal
 
 pub returns-then-class-len : goal.returns-then-class-len

@@ -1,6 +1,6 @@
 use Rattle.resin_program.proofs.Composition.{does_give}
-use Rattle.resin_functions.proofs.Marks.{fault_there, no_object}
-use Rattle.std.proofs.Common.{◌-◌}
+use Rattle.resin_objects.proofs.Found.{no_object}
+use Rattle.resin_runtime.proofs.Steps.{fault_there}
 use Rattle.resin_objects.proofs.calls.object_of.Goals as goal
 
 pub returns-in-Obj : goal.returns-in-Obj

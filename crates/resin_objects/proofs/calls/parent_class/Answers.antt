@@ -1,5 +1,4 @@
 use Rattle.resin_objects.proofs.Found.{parent_found, parent_missing}
-use Rattle.std.proofs.Common.{◌-◌}
 use Rattle.resin_objects.proofs.calls.parent_class.Goals as goal
 
 pub returns-in-Some : goal.returns-in-Some

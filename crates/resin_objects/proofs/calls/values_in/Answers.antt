@@ -1,6 +1,5 @@
-use Rattle.resin_program.specs.Programs.{within}
 use Rattle.resin_runtime.proofs.Pure.{value_added}
-use Rattle.std.proofs.Common.{arith, ◌-◌}
+use Rattle.std.proofs.Common.{arith}
 use Rattle.resin_objects.proofs.calls.values_in.Goals as goal
 
 pub loop-i-preserved : goal.loop-i-preserved

@@ -1,6 +1,5 @@
-use Rattle.resin_program.specs.Programs.{within}
 use Rattle.resin_value.specs.Seen.{trees_of}
-use Rattle.std.proofs.Common.{drop, length, map, ◌++◌, ◌+◌, ◌-◌, ◌≡◌, ◌≤◌}
+use Rattle.std.proofs.Common.{drop, length, map, ◌++◌, ◌-◌, ◌≡◌, ◌≤◌}
 use Rattle.resin_objects.proofs.calls.values_in.Given as goal
 
 abbrev pub decreases-loop-i : goal.decreases-loop-i

@@ -1,7 +1,7 @@
 use Rattle.resin_evaluation.specs.Invoke.{item_value, with_items}
 use Rattle.resin_program.proofs.Composition.{nothing_left}
 use Rattle.resin_objects.proofs.ConstantValues.{array_made, array_stops, entry_stops, item_stops, items_more, key_stops, keyed_added, literal_made, plain_added, plain_stops, turn_stops, value_stops}
-use Rattle.std.proofs.Common.{Ok, ap, map, sym, ◌-◌, ◌∙◌}
+use Rattle.std.proofs.Common.{Ok, ap, map, sym, ◌∙◌}
 use Rattle.resin_objects.proofs.constants.+constant.Goals as goal
 
 pub addition-returns-in_err-constant-clause-value : goal.addition-returns-in_err-constant-clause-value

@@ -1,6 +1,6 @@
 use Rattle.resin_evaluation.specs.Invoke.{item_value, with_items}
 use Rattle.resin_value.specs.Changes.{empty}
-use Rattle.std.proofs.Common.{Ok, drop, map, ◌-◌, ◌≡◌}
+use Rattle.std.proofs.Common.{Ok, drop, map, ◌≡◌}
 use Rattle.resin_objects.proofs.constants.+constant.Given as goal
 
 abbrev pub invariant-constant_array-loop-item : goal.invariant-constant_array-loop-item

@@ -1,6 +1,5 @@
 use Rattle.resin_objects.proofs.Found.{does_value, settle_keeps}
 use Rattle.resin_runtime.proofs.Steps.{does_computed_tree}
-use Rattle.std.proofs.Common.{◌-◌}
 use Rattle.resin_objects.proofs.constants.constant_value.Goals as goal
 
 pub returns-clause-does : goal.returns-clause-does

@@ -1,6 +1,6 @@
 use Rattle.resin_program.proofs.Composition.{does_give}
 use Rattle.resin_runtime.proofs.Steps.{does_lost_give}
-use Rattle.std.proofs.Common.{sym, ◌-◌}
+use Rattle.std.proofs.Common.{sym}
 use Rattle.resin_objects.proofs.invoke.argument_for.Goals as goal
 
 pub returns-in_err-clone-in-Some : goal.returns-in_err-clone-in-Some
@@ -9,7 +9,7 @@ returns-in_err-clone-in-Some c =
 
 pub returns-in_ok-clone-in-Some : goal.returns-in_ok-clone-in-Some
 returns-in_ok-clone-in-Some c =
-    rw (c.in-Some.is, sym c.in_ok-clone-in-Some.ensures) (λ f t k. does_give _ _)
+    rw (c.in-Some.is, sym c.in_ok-clone-in-Some.ensures.cases) (λ f t k. does_give _ _)
 
 pub returns-in-None : goal.returns-in-None
 returns-in-None c =

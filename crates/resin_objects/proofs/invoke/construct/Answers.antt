@@ -1,5 +1,4 @@
 use Rattle.resin_program.proofs.Composition.{does_act, does_exit, does_give, does_next}
-use Rattle.std.proofs.Common.{◌-◌}
 use Rattle.resin_objects.proofs.invoke.construct.Goals as goal
 
 pub returns-in_err-message : goal.returns-in_err-message

@@ -1,5 +1,4 @@
 use Rattle.resin_program.proofs.Composition.{does_loosely}
-use Rattle.std.proofs.Common.{◌-◌}
 use Rattle.resin_objects.proofs.invoke.default_value.Goals as goal
 
 pub returns-in-Some : goal.returns-in-Some

@@ -2,7 +2,7 @@ use Rattle.resin_program.proofs.Composition.{does_unbegun}
 use Rattle.resin_objects.proofs.Found.{method_found, method_unfound}
 use Rattle.resin_runtime.proofs.Loops.{handed_seen}
 use Rattle.resin_objects.specs.Methods.{seen_method}
-use Rattle.std.proofs.Common.{ap, sym, ◌-◌, ◌∙◌}
+use Rattle.std.proofs.Common.{ap, sym, ◌∙◌}
 use Rattle.std.specs.Option.{option_map}
 use Rattle.resin_objects.proofs.invoke.find_method.Goals as goal
 

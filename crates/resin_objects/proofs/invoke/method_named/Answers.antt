@@ -1,6 +1,6 @@
 use Rattle.resin_heap.specs.Classes.{method_of}
 use Rattle.resin_objects.proofs.Found.{method_missing, undeclared_method}
-use Rattle.std.proofs.Common.{ap, arith, length, ◌-◌, ◌∙◌}
+use Rattle.std.proofs.Common.{ap, arith, length, ◌∙◌}
 use Rattle.resin_objects.proofs.invoke.method_named.Goals as goal
 
 pub returns-then-class-len : goal.returns-then-class-len

@@ -1,6 +1,5 @@
 use Rattle.resin_program.proofs.Composition.{does_act, does_exit, does_give, does_loosely, does_next}
 use Rattle.resin_steps.proofs.Answered.{does_computed}
-use Rattle.std.proofs.Common.{◌-◌}
 use Rattle.resin_objects.proofs.invoke.own_body.Goals as goal
 
 pub returns-in-Construct : goal.returns-in-Construct

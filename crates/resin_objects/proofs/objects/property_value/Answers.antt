@@ -1,5 +1,4 @@
 use Rattle.resin_program.proofs.Composition.{does_give}
-use Rattle.std.proofs.Common.{◌-◌}
 use Rattle.resin_objects.proofs.objects.property_value.Goals as goal
 
 pub returns-in-Some-clause-does : goal.returns-in-Some-clause-does

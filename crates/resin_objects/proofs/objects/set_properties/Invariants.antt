@@ -1,8 +1,7 @@
 use Rattle.resin_evaluation.specs.Calls.{set_properties}
-use Rattle.resin_program.specs.KeeperCalls.{kept}
 use Rattle.resin_runtime.proofs.Steps.{Leaves}
 use Rattle.resin_tree.specs.declared.declaration.Property.{Property}
-use Rattle.std.proofs.Common.{List, drop, ◌++◌, ◌+◌, ◌-◌, ◌≡◌}
+use Rattle.std.proofs.Common.{List, drop, ◌++◌, ◌≡◌}
 use Rattle.resin_objects.proofs.objects.set_properties.Given as goal
 
 abbrev pub invariant-loop-p : goal.invariant-loop-p

@@ -1,5 +1,4 @@
 use Rattle.resin_program.proofs.Composition.{does_act, does_exit, does_next}
-use Rattle.std.proofs.Common.{◌-◌}
 use Rattle.resin_objects.proofs.objects.set_property.Goals as goal
 
 pub returns-in_err-v-clause-does : goal.returns-in_err-v-clause-does

@@ -1,8 +1,7 @@
 use Rattle.resin_evaluation.specs.Calls.{set_properties}
 use Rattle.resin_heap.specs.Classes.{own_properties}
-use Rattle.resin_program.specs.KeeperCalls.{kept}
 use Rattle.resin_runtime.proofs.Steps.{Leaves}
-use Rattle.std.proofs.Common.{drop, ◌-◌, ◌≡◌}
+use Rattle.std.proofs.Common.{drop, ◌≡◌}
 use Rattle.std.specs.List.{flat_map}
 use Rattle.resin_objects.proofs.objects.with_properties.Given as goal
 
