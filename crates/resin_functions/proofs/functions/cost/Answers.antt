@@ -1,5 +1,5 @@
 use Rattle.resin_builtin.proofs.Read.{cost_of_array}
-use Rattle.std.proofs.Common.{◌-◌, ◌∙◌}
+use Rattle.std.proofs.Common.{◌∙◌}
 use Rattle.resin_functions.proofs.functions.cost.Goals as goal
 
 pub returns-in-Arr : goal.returns-in-Arr

@@ -6,7 +6,7 @@ use Rattle.resin_program.specs.Programs.{act}
 use Rattle.resin_runtime.proofs.Loops.{leaves_done, leaves_next, leaves_stop}
 use Rattle.resin_runtime.proofs.Steps.{leaves_here}
 use Rattle.resin_value.specs.Seen.{tree_of, trees_of}
-use Rattle.std.proofs.Common.{ap, drop, ◌+◌, ◌-◌}
+use Rattle.std.proofs.Common.{ap, drop, ◌+◌}
 use Rattle.resin_functions.proofs.functions.take_all.Goals as goal
 
 pub loop-v-init : goal.loop-v-init

@@ -1,7 +1,7 @@
 use Rattle.resin_evaluation.specs.Functions.{take_all}
 use Rattle.resin_runtime.proofs.Steps.{Leaves}
 use Rattle.resin_value.specs.Seen.{trees_of}
-use Rattle.std.proofs.Common.{drop, ◌-◌}
+use Rattle.std.proofs.Common.{drop}
 use Rattle.resin_functions.proofs.functions.take_all.Given as goal
 
 abbrev pub invariant-loop-v : goal.invariant-loop-v

@@ -1,7 +1,6 @@
 use Rattle.resin_program.proofs.Composition.{does_next, does_stop}
 use Rattle.resin_runtime.proofs.Loops.{handed_seen}
 use Rattle.resin_value.specs.Seen.{tree_of}
-use Rattle.std.proofs.Common.{◌-◌}
 use Rattle.resin_functions.proofs.policies.add_policy.Goals as goal
 
 pub returns-in_err-o : goal.returns-in_err-o

@@ -3,7 +3,6 @@ use Rattle.resin_program.proofs.Composition.{does_unbegun}
 use Rattle.resin_runtime.proofs.Loops.{handed_seen}
 use Rattle.resin_functions.proofs.Marks.{class_told, no_class, throw_there}
 use Rattle.resin_value.specs.Seen.{tree_of}
-use Rattle.std.proofs.Common.{◌-◌}
 use Rattle.resin_functions.proofs.policies.class_name.Goals as goal
 
 pub returns-in_default : goal.returns-in_default

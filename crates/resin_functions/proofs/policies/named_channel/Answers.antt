@@ -1,5 +1,4 @@
 use Rattle.resin_functions.proofs.Marks.{channel_found, channel_missing}
-use Rattle.std.proofs.Common.{◌-◌}
 use Rattle.resin_functions.proofs.policies.named_channel.Goals as goal
 
 pub returns-in-Some : goal.returns-in-Some

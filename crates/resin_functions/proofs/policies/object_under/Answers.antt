@@ -1,6 +1,5 @@
 use Rattle.resin_functions.proofs.Marks.{under_none, under_one}
 use Rattle.resin_value.specs.Seen.{tree_of}
-use Rattle.std.proofs.Common.{◌-◌}
 use Rattle.resin_functions.proofs.policies.object_under.Goals as goal
 
 pub returns-then-not-is_object_under : goal.returns-then-not-is_object_under

@@ -1,6 +1,5 @@
 use Rattle.resin_label.specs.Sets.{empty, insert_all}
-use Rattle.resin_program.specs.Programs.{within}
-use Rattle.std.proofs.Common.{drop, length, ◌-◌, ◌≡◌, ◌≤◌}
+use Rattle.std.proofs.Common.{drop, length, ◌≡◌, ◌≤◌}
 use Rattle.resin_functions.proofs.policies.policies_of.Given as goal
 
 abbrev pub decreases-loop-i : goal.decreases-loop-i

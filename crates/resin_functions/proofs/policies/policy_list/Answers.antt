@@ -3,7 +3,7 @@ use Rattle.resin_program.proofs.Composition.{does_unbegun}
 use Rattle.resin_runtime.proofs.Loops.{handed_seen}
 use Rattle.resin_functions.proofs.Marks.{listed}
 use Rattle.resin_value.specs.Seen.{tree_of}
-use Rattle.std.proofs.Common.{Ok, ◌-◌}
+use Rattle.std.proofs.Common.{Ok}
 use Rattle.resin_functions.proofs.policies.policy_list.Goals as goal
 
 pub returns-in_err-set : goal.returns-in_err-set

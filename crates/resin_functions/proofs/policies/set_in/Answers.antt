@@ -1,6 +1,6 @@
 use Rattle.resin_label.specs.Sets.{numbers}
 use Rattle.resin_functions.proofs.Marks.{no_numbers, none_carried}
-use Rattle.std.proofs.Common.{ap, sym, ◌-◌, ◌∙◌}
+use Rattle.std.proofs.Common.{ap, sym, ◌∙◌}
 use Rattle.resin_functions.proofs.policies.set_in.Goals as goal
 
 pub returns-in_default : goal.returns-in_default

@@ -1,7 +1,7 @@
 use Rattle.resin_evaluation.specs.Merges.{is_under, objects_among}
 use Rattle.resin_heap.specs.declared.prelude.PreludeClass.TheVariants.{Policy}
 use Rattle.resin_label.specs.Sets.{insert_all}
-use Rattle.std.proofs.Common.{drop, length, map, true, ◌-◌, ◌≡◌, ◌≤◌}
+use Rattle.std.proofs.Common.{drop, length, map, true, ◌≡◌, ◌≤◌}
 use Rattle.std.specs.List.{list_all}
 use Rattle.resin_functions.proofs.policies.with_answered.Given as goal
 

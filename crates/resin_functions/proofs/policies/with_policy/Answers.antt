@@ -3,7 +3,7 @@ use Rattle.resin_runtime.proofs.Loops.{handed_seen}
 use Rattle.resin_runtime.proofs.Steps.{fault_there}
 use Rattle.resin_functions.proofs.Marks.{integer_marked, none_to_mark, text_marked}
 use Rattle.resin_value.specs.Seen.{tree_of}
-use Rattle.std.proofs.Common.{inl, refl, rules, w64, ◌-◌}
+use Rattle.std.proofs.Common.{inl, refl, rules, w64}
 use Rattle.std.proofs.lemmas.Int.{to_z-of_z}
 use mir.Val.{SFits}
 use Rattle.resin_functions.proofs.policies.with_policy.Goals as goal

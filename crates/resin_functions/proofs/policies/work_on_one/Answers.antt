@@ -1,7 +1,6 @@
 use Rattle.resin_heap.specs.declared.prelude.PreludeClass.TheVariants.{ArgumentCountError}
 use Rattle.resin_functions.proofs.Marks.{one_missing, throw_there}
 use Rattle.resin_value.specs.Seen.{tree_of}
-use Rattle.std.proofs.Common.{◌-◌}
 use Rattle.resin_functions.proofs.policies.work_on_one.Goals as goal
 
 pub returns-in-PolicyGet : goal.returns-in-PolicyGet

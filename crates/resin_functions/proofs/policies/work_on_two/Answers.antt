@@ -1,4 +1,3 @@
-use Rattle.std.proofs.Common.{◌-◌}
 use Rattle.resin_functions.proofs.policies.work_on_two.Goals as goal
 
 pub returns-in-PolicyAdd : goal.returns-in-PolicyAdd
