@@ -1,5 +1,5 @@
 -- Cuts of header lines.
-use Rattle.std.proofs.Common.{◌≡◌, ℕ, suc, ◌+◌, ◌-◌, ◌<◌, ltb, List, [], ◌∷◌, length, take, drop, Bool, true, false, ◌||◌, cond, not, Option, None, Some, refl, sym, ap, ◌∙◌, arith}
+use Rattle.std.proofs.Common.{◌≡◌, ℕ, suc, ◌+◌, ◌-◌, ltb, List, [], ◌∷◌, length, take, drop, Bool, true, false, ◌||◌, cond, not, Option, None, Some, refl, sym, ap, ◌∙◌, arith}
 use Rattle.std.specs.Prelude.{◌==◌, ◌&&◌, nat_lt, reverse}
 use Rattle.std.specs.List.{list_any, position_or_len, before_first, after_first}
 use Rattle.std.proofs.lemmas.Bool.Decides.{nat_tests}
@@ -87,15 +87,6 @@ colon_there line r at is some = by (nat_lt (position_or_len is_colon line) (leng
     by : (t : Bool) → list_any is_colon line ≡ t → r ≡ cond t (Some (position_or_len is_colon line)) None → list_any is_colon line ≡ true
     by true a e = a
     by false a e = absurd (no (sym e ∙ some))
-
-pub colon_within : (line : List ℕ) (r : Option ℕ) (at : ℕ) → Colon line r → r ≡ Some at → at < length line
-colon_within line r at is some =
-    let place = some_place is_colon line r at is some in
-    let lt : position_or_len is_colon line < length line = under (position_or_len is_colon line) (length line) (sym (any_place is_colon line) ∙ colon_there line r at is some) in
-    omega (arith, place, lt)
-  where
-    under : (k n : ℕ) → nat_lt k n ≡ true → k < n
-    under k n e = grind (arith, nat_tests)
 
 before_colon : (line : List ℕ) (r : Option ℕ) (at : ℕ) → Colon line r → r ≡ Some at → before_first is_colon line ≡ take at line
 before_colon line r at is some = ap (λ n. take n line) (sym (some_place is_colon line r at is some))

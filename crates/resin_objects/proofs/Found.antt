@@ -3,7 +3,7 @@ use Rattle.std.proofs.Common.{◌≡◌, ℕ, zero, suc, ◌+◌, ◌<◌, ◌�
 use Rattle.std.specs.Prelude.{slice_get, nat_eq, nat_lt, OnOk}
 use Rattle.std.proofs.lemmas.Bool.Decides.{nat_tests}
 use Rattle.std.specs.List.{flat_map}
-use Rattle.std.specs.Option.{option_map, option_map_or, option_and_then}
+use Rattle.std.specs.Option.{option_map_or, option_and_then}
 use Rattle.std.proofs.lemmas.Result.{err_from_is_err_and}
 use Rattle.std.proofs.lemmas.List.{drop_all}
 use Rattle.resin_scalar.specs.declared.faults.CallStop.{CallStop}
@@ -15,20 +15,18 @@ use Rattle.resin_value.specs.Trees.{Tree}
 use Rattle.resin_value.specs.Seen.{tree_of}
 use Rattle.resin_value.specs.Values.{value_of, value_of-tree_of}
 use Rattle.resin_tree.specs.declared.declaration.ClassDecl.{ClassDecl}
-use Rattle.resin_tree.specs.declared.declaration.Function.{Function}
 use Rattle.resin_tree.specs.declared.declaration.Parameter.{Parameter}
 use Rattle.resin_tree.specs.declared.declaration.Property.{Property}
-use Rattle.resin_heap.specs.Classes.{Table, line, line_within, parent_in, parent_of, find_method as find_in, first_method, method_of, function_at, own_properties, properties_of}
-use Rattle.resin_heap.specs.Objects.{with_field}
+use Rattle.resin_heap.specs.Classes.{Table, line, line_within, parent_in, parent_of, find_method as find_in, first_method, method_of, own_properties, properties_of}
 use Rattle.resin_heap.specs.declared.classes.MethodAt.{MethodAt}
 use Rattle.resin_machine.specs.declared.stop.Stop.{Stop}
 use Rattle.resin_machine.specs.declared.stop.Stop.TheVariants.{Fault, Memory}
 use Rattle.resin_machine.specs.State.{State}
-use Rattle.resin_machine.specs.Steps.{Acts, ActsLoosely, faults}
+use Rattle.resin_machine.specs.Steps.{Acts, ActsLoosely}
 use Rattle.resin_machine.specs.Variables.{assign}
 use Rattle.resin_heap.specs.Prelude.{number_of}
 use Rattle.resin_heap.specs.declared.prelude.PreludeClass.TheVariants.{Throwable}
-use Rattle.resin_machine.specs.Objects.{find_class_of, is_object, make_object, set_field, settled, last_number, with_fields_of}
+use Rattle.resin_machine.specs.Objects.{find_class_of, make_object, settled, last_number}
 use Rattle.resin_program.specs.Programs.{Prog, give, act, ◌>>=◌}
 use Rattle.resin_program.specs.Runs.{World, world, Does}
 use Rattle.resin_program.proofs.Composition.{does_act, does_next, does_stop, does_give, does_nothing, does_unbegun, front, front_number, nothing_left}
@@ -70,12 +68,6 @@ pub own_declared : (t : Table) (c : ℕ) (d : ClassDecl) → slice_get t c ≡ S
 own_declared t c d e = ap (λ (o : Option ClassDecl). option_map_or (λ (x : ClassDecl). x.properties) o []) e
 
 -- ---- methods
-
-pub method_there : (class : ℕ) (name : List ℕ) (m : State) (o : Option MethodAt) (at : MethodAt) (f g : Function) → o ≡ method_of m.classes class name → o ≡ Some at → function_at m.classes at ≡ Some f → g ≡ f
-    → Some (at, g) ≡ method_named class name m
-method_there class name m o at f g is e there same =
-    (λ i. Some (at, same i))
-    ∙ sym (ap (option_and_then (λ a. declared_at a m)) (sym is ∙ e) ∙ ap (option_map (λ (h : Function). (at, h))) there)
 
 pub method_missing : (class : ℕ) (name : List ℕ) (m : State) (o : Option MethodAt) → o ≡ method_of m.classes class name → o ≡ None → None ≡ method_named class name m
 method_missing class name m o is e = sym (ap (option_and_then (λ a. declared_at a m)) (sym is ∙ e))
@@ -119,14 +111,6 @@ settled_classes {A = A} given m v m' e = sym (ap (λ (p : Result A Stop × State
     by (Err (Throw kind)) = either (nat_lt (length m.heap) last_number) _ _ _ refl
     by (Err (CallFault fault)) = refl
     by (Err CallMemory) = refl
-
-pub field_classes : (o : ℕ) (name : List ℕ) (v : Value) (m : State) (r : Result (Unit {0}) Stop) (m' : State) → Acts (set_field o name v) m r m' → OnOk r (m'.classes ≡ m.classes)
-field_classes o name v m (Err s) m' a = tt
-field_classes o name v m (Ok u) m' a = sym (ap (λ (p : Result (Unit {0}) Stop × State). p.1.classes) a.acted) ∙ by (is_object m.heap o)
-  where
-    by : (b : Bool) → (let p : Result (Unit {0}) Stop × State = cond b (Ok tt, with_fields_of o (with_field name v) m) (faults BadOperand m) in p.1.classes) ≡ m.classes
-    by true = refl
-    by false = refl
 
 -- ---- properties that are set
 
