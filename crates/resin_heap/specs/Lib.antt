@@ -1,5 +1,4 @@
 pub mod Names
-pub mod Kept
 pub mod Classes
 pub mod Codes
 pub mod Places

@@ -6,7 +6,7 @@ ghost use Rattle.resin_heap.specs.Names.{same_name};
 ghost use Rattle.resin_heap.specs.Classes.{find_method};
 ghost use Rattle.resin_heap.specs.Places.{ArePlaces};
 
-use crate::names::{CaselessName, place_of};
+use crate::names::{CaselessName, SoughtName, place_of};
 use indexmap::IndexMap;
 use resin_items::SharedBytes;
 use resin_tree::{ClassDecl, Function};
@@ -22,7 +22,7 @@ pub(crate) struct Class {
     declaration: ClassDecl,
     parent: Option<u32>,
     // The place of the method of each name.
-    places: IndexMap<CaselessName<'static>, u32>,
+    places: IndexMap<CaselessName, u32>,
 }
 
 impl Model for Class {
@@ -72,17 +72,14 @@ impl Class {
     pub(crate) fn method(&self, name: &[u8]) -> Option<u32>
         ensures { result ≡ find_method self.now.0.methods name.now }
     {
-        let i = place_of(&self.places, &CaselessName::lent(name))?;
+        let i = place_of(&self.places, SoughtName::lent(name))?;
         let (_, place) = self.places.get_index(i)?;
         Some(*place)
     }
 }
 
 // The places of methods by their names; of two with one name the first counts.
-fn places_of(
-    alloc: Global,
-    methods: &[Function],
-) -> Result<IndexMap<CaselessName<'static>, u32>, AllocError>
+fn places_of(alloc: Global, methods: &[Function]) -> Result<IndexMap<CaselessName, u32>, AllocError>
     requires { length methods.now < MOST_METHODS }
     ensures { IfOk result (λ places. ArePlaces methods.now places.entries) }
 {
@@ -95,14 +92,14 @@ fn places_of(
 
 // Keeps the place of a name, unless the name has one.
 fn keep_first(
-    places: &mut IndexMap<CaselessName<'static>, u32>,
+    places: &mut IndexMap<CaselessName, u32>,
     name: &SharedBytes,
     place: u32,
 ) -> Result<(), AllocError>
     ensures { OnOk result ((wanted : List ℕ) → lookup (same_name wanted) places.new.entries
         ≡ option_or (lookup (same_name wanted) places.old.entries) (if same_name wanted name.now then Some place else None)) }
 {
-    if place_of(places, &CaselessName::lent(name.as_slice())).is_none() {
+    if place_of(places, SoughtName::lent(name.as_slice())).is_none() {
         places.insert(CaselessName::kept(name.clone()?), place)?;
     }
     Ok(())

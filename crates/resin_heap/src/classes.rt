@@ -6,7 +6,7 @@ ghost use Rattle.resin_heap.specs.Prelude.{prelude, StartsWithPrelude, number_of
 ghost use Rattle.resin_heap.specs.Tables.{declared, with_class, IsKept};
 
 use crate::class::{Class, MOST_METHODS};
-use crate::names::{CaselessName, place_of};
+use crate::names::{CaselessName, SoughtName, place_of};
 use crate::prelude::{PRELUDE_LEN, PreludeClass};
 use indexmap::IndexMap;
 use resin_tree::{ClassDecl, Function};
@@ -48,7 +48,7 @@ pub struct MethodAt {
 /// declarations. Names ignore ASCII case.
 #[derive(Drop)]
 pub struct Classes {
-    table: IndexMap<CaselessName<'static>, Class>,
+    table: IndexMap<CaselessName, Class>,
     alloc: Global,
 }
 
@@ -93,7 +93,7 @@ impl Classes {
         ensures value { result ≡ find_class self.now name.now }
         ensures within { IfSome result (λ c. c < length self.now) }
     {
-        match place_of(&self.table, &CaselessName::lent(name)) {
+        match place_of(&self.table, SoughtName::lent(name)) {
             Some(i) => Some(i as u32),
             None => None,
         }
@@ -239,7 +239,7 @@ impl Classes {
 // Puts a class last whose name is new.
 fn add(
     alloc: Global,
-    table: &mut IndexMap<CaselessName<'static>, Class>,
+    table: &mut IndexMap<CaselessName, Class>,
     c: &ClassDecl,
     parent: Option<u32>,
 ) -> Result<(), AllocError>
@@ -267,7 +267,7 @@ fn parent_number(class: PreludeClass) -> Option<u32>
 // Puts a class of the runtime last.
 fn add_prelude(
     alloc: Global,
-    table: &mut IndexMap<CaselessName<'static>, Class>,
+    table: &mut IndexMap<CaselessName, Class>,
     class: PreludeClass,
 ) -> Result<(), AllocError>
     requires fresh { find_class (declared table.old.entries) (name_of class) ≡ None }

@@ -17,7 +17,7 @@ use std::mem;
 /// The fields of an object: names with values, in the order in which the names were first set. A name is found by hashing.
 #[derive(Drop)]
 pub struct ObjectFields {
-    map: IndexMap<FieldName<'static>, Value>,
+    map: IndexMap<FieldName, Value>,
     alloc: Global,
 }
 
@@ -32,7 +32,7 @@ impl Model for ObjectFields {
 }
 
 // Writes a value at a place, and answers the old one.
-fn exchange_at(map: &mut IndexMap<FieldName<'static>, Value>, i: usize, v: Value) -> Value
+fn exchange_at(map: &mut IndexMap<FieldName, Value>, i: usize, v: Value) -> Value
     requires { i < length map.old.entries }
     ensures old { slice_get (values_of map.old.entries) i ≡ Some result }
     ensures new { map.new.entries ≡ set_value_at map.old.entries i v }
@@ -42,7 +42,7 @@ fn exchange_at(map: &mut IndexMap<FieldName<'static>, Value>, i: usize, v: Value
 }
 
 // Writes a value at a place.
-fn write_at(map: &mut IndexMap<FieldName<'static>, Value>, i: usize, v: Value)
+fn write_at(map: &mut IndexMap<FieldName, Value>, i: usize, v: Value)
     requires { i < length map.old.entries }
     ensures { map.new.entries ≡ set_value_at map.old.entries i v }
 {
@@ -52,7 +52,7 @@ fn write_at(map: &mut IndexMap<FieldName<'static>, Value>, i: usize, v: Value)
 // Puts a value at a name that is kept from now on.
 fn insert(
     alloc: Global,
-    map: &mut IndexMap<FieldName<'static>, Value>,
+    map: &mut IndexMap<FieldName, Value>,
     name: &[u8],
     v: Value,
 ) -> Result<(), AllocError>
@@ -65,7 +65,7 @@ fn insert(
 }
 
 // Takes out the field at a place.
-fn remove_at(map: &mut IndexMap<FieldName<'static>, Value>, i: usize)
+fn remove_at(map: &mut IndexMap<FieldName, Value>, i: usize)
     ensures { map.new.entries ≡ remove map.old.entries i }
 {
     let _field = map.shift_remove_index(i);
@@ -101,7 +101,7 @@ impl ObjectFields {
     pub fn get(&self, name: &[u8]) -> Option<&Value>
         ensures { option_copied result ≡ field name.now self.now }
     {
-        let i = place_of(&self.map, &FieldName::lent(name))?;
+        let i = place_of(&self.map, name)?;
         let (_, value) = self.map.get_index(i)?;
         Some(value)
     }
@@ -120,7 +120,7 @@ impl ObjectFields {
         ensures ok { OnOk result (self.new ≡ with_field name.now v self.old) }
         ensures err { OnErr result (self.new ≡ self.old) }
     {
-        match place_of(&self.map, &FieldName::lent(name)) {
+        match place_of(&self.map, name) {
             Some(i) => {
                 write_at(&mut self.map, i, v);
                 Ok(())
@@ -135,7 +135,7 @@ impl ObjectFields {
         ensures old { field name.now self.old ≡ Some result }
         ensures new { self.new ≡ with_field name.now v self.old }
     {
-        let i = place_of(&self.map, &FieldName::lent(name)).unwrap();
+        let i = place_of(&self.map, name).unwrap();
         exchange_at(&mut self.map, i, v)
     }
 
@@ -144,7 +144,7 @@ impl ObjectFields {
         ensures found { result ≡ is_some (field name.now self.old) }
         ensures left { self.new ≡ without_field name.now self.old }
     {
-        match place_of(&self.map, &FieldName::lent(name)) {
+        match place_of(&self.map, name) {
             Some(i) => {
                 remove_at(&mut self.map, i);
                 true

@@ -1,80 +1,56 @@
-//! Names as keys of maps: those of classes and methods, which ignore ASCII case, and those of fields, which don't. A key
-//! that is only looked up is lent its bytes, so that a look-up takes no memory.
+//! Names as keys of maps: those of classes and methods, which ignore ASCII case, and those of fields, which don't. A name
+//! that is looked up is lent its bytes, so that a look-up takes no memory.
 ghost use Rattle.std.specs.Prelude.{◌≡◌, ◌<◌, fold, length, position, slice_get, MatchOption, None};
 ghost use Rattle.std.specs.Map.{lookup, values_of};
-ghost use Rattle.std.specs.Cmp.{partial_equiv_from_equiv};
+ghost use Rattle.std.specs.Cmp.{on_equiv, partial_equiv_from_equiv};
 ghost use Rattle.std.specs.Cmp.Lexicographic.{nat_list_eq_equiv};
 ghost use Rattle.std.specs.Cmp.Rules.{hashing};
 ghost use Rattle.std.specs.Hash as fed;
 ghost use Rattle.std.specs.Str.{bytes_eq};
+ghost use Rattle.std.specs.Cmp.Lexicographic.{bytes_decides};
+ghost use Rattle.std.proofs.Common.{ap};
 ghost use Rattle.std.proofs.Common.{rules};
 ghost use Rattle.indexmap.specs.IndexMap.{keys};
-ghost use Rattle.resin_heap.specs.Kept.{bytes_of};
 ghost use Rattle.resin_heap.specs.Names.{same_name, fed_name, same_name_equiv, same_name_fed};
 
-use indexmap::IndexMap;
+use indexmap::{Equivalent, IndexMap};
 use resin_items::SharedBytes;
 use std::hash::{Hash, Hasher};
 use std::marker::Model;
 
-// The bytes of a name: shared with the declaration or held for good, or lent for one look-up.
+// The name of a class or a method, as a key. Names that differ in the case of ASCII letters alone are equal.
 #[derive(Drop)]
-pub(crate) enum NameBytes<'a> {
-    Kept(SharedBytes),
-    Lent(&'a [u8]),
+pub(crate) struct CaselessName {
+    bytes: SharedBytes,
 }
 
-impl<'a> NameBytes<'a> {
-    fn as_slice(&self) -> &[u8]
-        ensures { result.now ≡ bytes_of self.now }
-    {
-        match self {
-            NameBytes::Kept(bytes) => bytes.as_slice(),
-            NameBytes::Lent(bytes) => *bytes,
-        }
-    }
-}
-
-// The name of a class or a method. Names that differ in the case of ASCII letters alone are equal.
-#[derive(Drop)]
-pub(crate) struct CaselessName<'a> {
-    bytes: NameBytes<'a>,
-}
-
-impl<'a> Model for CaselessName<'a> {
+impl Model for CaselessName {
     ghost use Rattle.std.specs.Prelude.{ℕ, List};
 
     ghost Value = { List ℕ };
 
-    ghost use Rattle.resin_heap.specs.Kept.{bytes_of};
-
-    ghost view = { λ n. bytes_of n.bytes };
+    ghost view = { λ n. n.bytes };
 }
 
-impl<'a> CaselessName<'a> {
-    // A name to look up.
-    pub(crate) fn lent(bytes: &'a [u8]) -> CaselessName<'a>
-        ensures { result ≡ bytes.now }
-    {
-        CaselessName {
-            bytes: NameBytes::Lent(bytes),
-        }
-    }
-
-    // A name to keep.
-    pub(crate) fn kept(bytes: SharedBytes) -> CaselessName<'static>
+impl CaselessName {
+    pub(crate) fn kept(bytes: SharedBytes) -> CaselessName
         ensures { result ≡ bytes }
     {
-        CaselessName {
-            bytes: NameBytes::Kept(bytes),
-        }
+        CaselessName { bytes }
     }
+}
 
-    // The bytes, in the case in which they were given.
-    fn as_slice(&self) -> &[u8]
-        ensures { result.now ≡ self.now }
+// Such a name that is looked up.
+#[derive(Clone, Copy)]
+pub(crate) struct SoughtName<'a> {
+    bytes: &'a [u8],
+}
+
+impl<'a> SoughtName<'a> {
+    pub(crate) fn lent(bytes: &'a [u8]) -> SoughtName<'a>
+        ensures { result.bytes.now ≡ bytes.now }
     {
-        self.bytes.as_slice()
+        SoughtName { bytes }
     }
 }
 
@@ -87,63 +63,87 @@ fn feed<H: Hasher>(bytes: &[u8], state: &mut H)
     }
 }
 
-impl<'a> PartialEq for CaselessName<'a> {
+impl PartialEq for CaselessName {
     ghost eq = { same_name };
 
     ghost laws = { partial_equiv_from_equiv same_name_equiv };
 
     fn eq(&self, other: &Self) -> bool {
-        self.as_slice().eq_ignore_ascii_case(other.as_slice())
+        self.bytes
+            .as_slice()
+            .eq_ignore_ascii_case(other.bytes.as_slice())
     }
 }
 
-impl<'a> Eq for CaselessName<'a> {
+impl Eq for CaselessName {
     ghost laws = { same_name_equiv };
 }
 
-impl<'a> Hash for CaselessName<'a> {
+impl Hash for CaselessName {
     ghost hash_input = { fed_name };
 
     ghost respects_eq = { same_name_fed };
 
     fn hash<H: Hasher>(&self, state: &mut H) {
-        feed(self.as_slice(), state);
+        feed(self.bytes.as_slice(), state);
     }
 }
 
-// The name of a field.
-#[derive(Drop)]
-pub(crate) struct FieldName<'a> {
-    bytes: NameBytes<'a>,
+impl<'a> PartialEq for SoughtName<'a> {
+    ghost eq = { λ a b. same_name a.bytes.now b.bytes.now };
+
+    ghost laws = { partial_equiv_from_equiv (on_equiv (λ n. n.bytes.now) same_name_equiv) };
+
+    fn eq(&self, other: &Self) -> bool {
+        self.bytes.eq_ignore_ascii_case(other.bytes)
+    }
 }
 
-impl<'a> Model for FieldName<'a> {
+impl<'a> Eq for SoughtName<'a> {
+    ghost laws = { on_equiv (λ n. n.bytes.now) same_name_equiv };
+}
+
+impl<'a> Hash for SoughtName<'a> {
+    ghost hash_input = { λ n. fed_name n.bytes.now };
+
+    ghost respects_eq = { λ a b. same_name_fed a.bytes.now b.bytes.now };
+
+    fn hash<H: Hasher>(&self, state: &mut H) {
+        feed(self.bytes, state);
+    }
+}
+
+impl<'a> Equivalent<CaselessName> for SoughtName<'a> {
+    ghost equivalent = { λ n. same_name n.bytes.now };
+
+    ghost respects_hash = { λ n. same_name_fed n.bytes.now };
+
+    ghost respects_eq = { λ n. same_name_equiv.congr n.bytes.now };
+
+    fn equivalent(&self, key: &CaselessName) -> bool {
+        self.bytes.eq_ignore_ascii_case(key.bytes.as_slice())
+    }
+}
+
+// The name of a field, as a key. It is looked up by its bytes.
+#[derive(Drop)]
+pub(crate) struct FieldName {
+    bytes: SharedBytes,
+}
+
+impl Model for FieldName {
     ghost use Rattle.std.specs.Prelude.{ℕ, List};
 
     ghost Value = { List ℕ };
 
-    ghost use Rattle.resin_heap.specs.Kept.{bytes_of};
-
-    ghost view = { λ n. bytes_of n.bytes };
+    ghost view = { λ n. n.bytes };
 }
 
-impl<'a> FieldName<'a> {
-    // A name to look up.
-    pub(crate) fn lent(bytes: &'a [u8]) -> FieldName<'a>
-        ensures { result ≡ bytes.now }
-    {
-        FieldName {
-            bytes: NameBytes::Lent(bytes),
-        }
-    }
-
-    // A name to keep.
-    pub(crate) fn kept(bytes: SharedBytes) -> FieldName<'static>
+impl FieldName {
+    pub(crate) fn kept(bytes: SharedBytes) -> FieldName
         ensures { result ≡ bytes }
     {
-        FieldName {
-            bytes: NameBytes::Kept(bytes),
-        }
+        FieldName { bytes }
     }
 
     pub(crate) fn as_slice(&self) -> &[u8]
@@ -153,7 +153,7 @@ impl<'a> FieldName<'a> {
     }
 }
 
-impl<'a> PartialEq for FieldName<'a> {
+impl PartialEq for FieldName {
     ghost eq = { bytes_eq };
 
     ghost laws = { partial_equiv_from_equiv nat_list_eq_equiv };
@@ -163,11 +163,11 @@ impl<'a> PartialEq for FieldName<'a> {
     }
 }
 
-impl<'a> Eq for FieldName<'a> {
+impl Eq for FieldName {
     ghost laws = { nat_list_eq_equiv };
 }
 
-impl<'a> Hash for FieldName<'a> {
+impl Hash for FieldName {
     ghost hash_input = { fed.slice fed.u8 };
 
     ghost respects_eq = { Prim.search (hashing, rules) };
@@ -177,11 +177,26 @@ impl<'a> Hash for FieldName<'a> {
     }
 }
 
-// The place of a key in a map. The key may be lent for the look-up alone, since a map of kept names is also one of names with a shorter life.
-pub(crate) fn place_of<K: Eq + Hash, V>(map: &IndexMap<K, V>, key: &K) -> Option<usize>
-    ensures place { result ≡ position (K.eq key.now) (keys map.now) }
-    ensures value { MatchOption result (lookup (K.eq key.now) map.now.entries ≡ None)
-        (λ i. (i < length map.now.entries) × (slice_get (values_of map.now.entries) i ≡ lookup (K.eq key.now) map.now.entries)) }
+impl Equivalent<FieldName> for &[u8] {
+    ghost equivalent = { λ q. bytes_eq q.now };
+
+    ghost respects_hash = { λ q k h. ap (fed.slice fed.u8) ((bytes_decides q.now k).0 h) };
+
+    ghost respects_eq = { λ q. nat_list_eq_equiv.congr q.now };
+
+    fn equivalent(&self, key: &FieldName) -> bool {
+        *self == key.as_slice()
+    }
+}
+
+// The place of a key in a map, by what stands for it.
+pub(crate) fn place_of<K: Eq + Hash, V, Q: Equivalent<K>>(
+    map: &IndexMap<K, V>,
+    key: Q,
+) -> Option<usize>
+    ensures place { result ≡ position (Q.equivalent key) (keys map.now) }
+    ensures value { MatchOption result (lookup (Q.equivalent key) map.now.entries ≡ None)
+        (λ i. (i < length map.now.entries) × (slice_get (values_of map.now.entries) i ≡ lookup (Q.equivalent key) map.now.entries)) }
 {
     map.get_index_of(key)
 }

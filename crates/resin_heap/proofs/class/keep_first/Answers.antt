@@ -9,10 +9,10 @@ pub returns-else-is_none : goal.returns-else-is_none
 returns-else-is_none c wanted =
     let es = c.args.places.now.entries in
     let name = c.args.name.now in
-    let named : c.lent.result ≡ name = c.lent.ensures ∙ c.as_slice.ensures in
+    let named : c.lent.result.bytes.now ≡ name = c.lent.ensures ∙ c.as_slice.ensures in
     let there : is_some (lookup (same_name name) es) ≡ true =
     sym (some_index (same_name name) es)
-    ∙ ap is_some (ap (λ n. position (same_name n) (keys_of es)) (sym named) ∙ sym c.place_of-2.ensures.place)
+    ∙ ap is_some (ap (λ n. position (same_name n) (keys_of es)) (sym named) ∙ sym c.place_of.ensures.place)
     ∙ c.is_none.ensures
     ∙ ap not c.if-is_none.false in
     kept_first es name c.args.place wanted there

@@ -9,5 +9,5 @@ pub returns-clause-new : goal.returns-clause-new
 returns-clause-new c =
     let fields = c.self.inside.map.entries in
     let at : Some c.unwrap-i.result ≡ position (bytes_eq c.args.name.now) (keys_of fields) =
-    sym c.unwrap-i.ensures ∙ c.place_of-2.ensures.place ∙ ap (λ name. position (bytes_eq name) (keys_of fields)) c.lent.ensures in
+    sym c.unwrap-i.ensures ∙ c.place_of.ensures.place in
     c.exchange_at.ensures.new ∙ written_at c.args.name.now c.args.v fields c.unwrap-i.result at ∙ ap (with_field c.args.name.now c.args.v) c.self.view_is

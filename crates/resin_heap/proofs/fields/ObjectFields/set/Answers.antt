@@ -9,5 +9,5 @@ pub returns-in-Some-clause-ok : goal.returns-in-Some-clause-ok
 returns-in-Some-clause-ok c =
     let fields = c.self.inside.map.entries in
     let at : Some c.in-Some.i ≡ position (bytes_eq c.args.name.now) (keys_of fields) =
-    c.in-Some.ensures.place ∙ ap (λ name. position (bytes_eq name) (keys_of fields)) c.lent.ensures in
+    c.in-Some.ensures.place in
     c.write_at.ensures ∙ written_at c.args.name.now c.args.v fields c.in-Some.i at ∙ ap (with_field c.args.name.now c.args.v) c.self.view_is

@@ -9,12 +9,12 @@ pub returns-in-Some-clause-left : goal.returns-in-Some-clause-left
 returns-in-Some-clause-left c =
     let fields = c.self.inside.map.entries in
     let at : Some c.in-Some.i ≡ position (bytes_eq c.args.name.now) (keys_of fields) =
-    c.in-Some.ensures.place ∙ ap (λ name. position (bytes_eq name) (keys_of fields)) c.lent.ensures in
+    c.in-Some.ensures.place in
     c.remove_at.ensures ∙ taken_at c.args.name.now fields c.in-Some.i at ∙ ap (without_field c.args.name.now) c.self.view_is
 
-pub returns-clause-left : goal.returns-clause-left
-returns-clause-left c =
+pub returns-in-None-clause-left : goal.returns-in-None-clause-left
+returns-in-None-clause-left c =
     let fields = c.self.inside.map.entries in
     let absent : field c.args.name.now c.args.self.now ≡ None =
-    ap (field c.args.name.now) (sym c.self.view_is) ∙ ap (λ name. lookup (bytes_eq name) fields) (sym c.lent.ensures) ∙ c.in-None.ensures.value in
+    ap (field c.args.name.now) (sym c.self.view_is) ∙ c.in-None.ensures.value in
     sym (nothing_out (bytes_eq c.args.name.now) c.args.self.now absent)
