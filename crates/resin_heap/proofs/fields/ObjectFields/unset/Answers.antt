@@ -1,5 +1,5 @@
 use Rattle.std.proofs.Common.{◌≡◌, sym, ap, ◌∙◌, position, Some, None}
-use Rattle.std.specs.Map.{keys_of, lookup}
+use Rattle.std.specs.Map.{keys_of}
 use Rattle.std.specs.Str.{bytes_eq}
 use Rattle.resin_heap.specs.Objects.{field, without_field}
 use Rattle.resin_heap.proofs.Field_places.{taken_at, nothing_out}
