@@ -1,0 +1,6 @@
+//! Which programs are built.
+#![tactic(auto)]
+
+mod built;
+
+pub use built::is_built;

@@ -1,0 +1,5 @@
+//! What nests in an evaluation, and calls of functions and methods that were found and whose arguments are evaluated.
+#![tactic(auto)]
+
+pub mod invoke;
+pub mod nested;
