@@ -1,0 +1,4 @@
+//! Assignments to variables, elements and properties.
+#![tactic(auto)]
+
+pub mod assign;

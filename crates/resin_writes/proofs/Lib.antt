@@ -1,0 +1,4 @@
+pub mod Exits
+pub mod Orders
+pub mod Others
+pub mod Prepared
