@@ -1,0 +1,4 @@
+pub mod Arms
+pub mod Cases
+pub mod Shapes
+pub mod Turns

@@ -1,0 +1,4 @@
+//! Statements.
+#![tactic(auto)]
+
+pub mod forms;
