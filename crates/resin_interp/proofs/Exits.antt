@@ -1,0 +1,43 @@
+-- Exits of functions whose end is seen otherwise, and want of memory before a program begins.
+use Rattle.std.proofs.Common.{◌≡◌, ℕ, ◌<◌, ◌≤◌, List, [], ◌∷◌, length, Bool, true, false, Option, Result, Ok, Err, inl, refl, sym, ap, subst, arith, IsErrAnd}
+use Rattle.std.specs.Prelude.{◌==◌}
+use Rattle.std.proofs.lemmas.Bool.Decides.{nat_tests}
+use Rattle.std.proofs.lemmas.Result.{err_from_is_err_and}
+use Rattle.resin_base.specs.FileStore.{FileStore}
+use Rattle.resin_base.specs.TableStore.{TableStore}
+use Rattle.resin_base.specs.declared.calls.Calls.{Calls}
+use Rattle.resin_label.specs.Sets.{NumberSet, empty as no_labels}
+use Rattle.resin_lstr.specs.Texts.{Text as LabelledText}
+use Rattle.resin_journal.specs.declared.channel.Channel.{Channel}
+use Rattle.resin_value.specs.Trees.{Tree}
+use Rattle.resin_machine.specs.declared.stop.Stop.{Stop}
+use Rattle.resin_machine.specs.declared.stop.Stop.TheVariants.{Thrown, Exit, Fault, Keeper, Memory}
+use Rattle.resin_machine.specs.State.{State}
+use Rattle.resin_program.specs.Programs.{Prog, give, ended, then_by, framed, ◌>>=◌}
+use Rattle.resin_program.specs.Runs.{Seen, World, world, Does, done}
+use Rattle.resin_program.specs.LeavingWrites.{ask_policies, ask_filters}
+use Rattle.resin_program.proofs.Composition.{does_stop, does_stopped, does_then, does_lost, does_unbegun, does_nothing, does_ended, none_here}
+use Rattle.resin_program.proofs.Enclosures.{does_unframed}
+use Rattle.resin_evaluation.specs.Runs.{on_ok}
+use Rattle.resin_evaluation.specs.Parts.{Evals}
+use Rattle.resin_evaluation.specs.Merges.{fold_on, fold_sets}
+use Rattle.resin_evaluation.specs.Functions.{format_arguments}
+use Rattle.resin_evaluation.specs.Channels.{unbuilt}
+use Rattle.resin_scalar.specs.declared.faults.ScriptFault.TheVariants.{UndefinedFunction}
+use Rattle.resin_evaluation.specs.Programs.{file, flow_of, program_end}
+use Rattle.resin_evaluation.specs.declared.course.Course.{Course}
+use Rattle.resin_evaluation.specs.declared.course.Flow.{Flow}
+use Rattle.resin_evaluation.specs.declared.course.Flow.TheVariants.{Exit as Exited}
+
+-- ---- how a program ends
+
+pub does_program : (p : Prog Course) {u v : World} (r : Result Course Stop) {q : Result Flow Stop} → q ≡ program_end r → Does p u r v → Does (then_by p (λ x. ended (program_end x))) u q v
+does_program p {u = u} {v = v} r e d = rw e (by r d)
+  where
+    by : (r : Result Course Stop) → Does p u r v → Does (then_by p (λ x. ended (program_end x))) u (program_end r) v
+    by (Ok course) d = does_then p _ (λ k. cc) (done d).blames d (does_ended (Ok (flow_of course)) v (none_here v))
+    by (Err (Thrown o)) d = does_then p _ (λ k. cc) (done d).blames d (does_ended (Err (Thrown o)) v (none_here v))
+    by (Err Exit) d = does_then p _ (λ k. cc) (done d).blames d (does_ended (Ok Exited) v (none_here v))
+    by (Err (Fault f line)) d = does_then p _ (λ k. cc) (done d).blames d (does_ended (Err (Fault f line)) v (none_here v))
+    by (Err Keeper) d = does_stopped p _ refl d
+    by (Err Memory) d = does_stopped p _ refl d
