@@ -64,7 +64,6 @@ kept_none k = record {
   failed = sym (append-nil k.failed);
   files = tells_none k.file_answers;
   tables = tells_none k.table_answers;
-  on_files = refl;
   rose = (omega arith, omega arith, λ l m. omega arith);
 }
 
@@ -81,7 +80,6 @@ kept_then a b c h k =
           ∙ ap (λ l. a.failed ++ l) (ap (λ i. failed_after a.made h.calls ++ failed_after i k.calls) m ∙ sym (failed_append a.made h.calls k.calls));
       files = subst (TellsMore a.file_answers c.file_answers) (sym (files_append h.calls k.calls)) (tells_then a.file_answers b.file_answers c.file_answers _ _ h.files k.files);
       tables = subst (TellsMore a.table_answers c.table_answers) (sym (tables_append h.calls k.calls)) (tells_then a.table_answers b.table_answers c.table_answers _ _ h.tables k.tables);
-      on_files = tables_append h.calls k.calls ∙ ap (λ l. l ++ of_tables k.calls) h.on_files ∙ k.on_files;
       rose = subst (RoseBy a c) (let l : length (failed_after a.made h.calls) + length (failed_after b.made k.calls) ≡ length (failed_after a.made (h.calls ++ k.calls)) = sizes in l)
           (rose_then a b c _ _ h.rose k.rose);
     }

@@ -14,9 +14,11 @@ use Rattle.resin_http.specs.declared.request.Request.{Request}
 use Rattle.resin_site.specs.declared.outcome.Outcome.{Outcome}
 use Rattle.resin_site.specs.declared.outcome.End.TheVariants.{NotYet as Unbuilt}
 use Rattle.resin_site.specs.Serving.{Served}
-use Rattle.resin_site.specs.Outcomes.{not_found, refusal_text}
-use Rattle.resin_site.specs.Paths.{path_of, is_open}
-use Rattle.resin_site.specs.Looks.{find}
+use Rattle.resin_site.specs.Outcomes.{refusal_text}
+use Rattle.resin_journal.specs.Events.{EventList}
+use Rattle.resin_journal.specs.Lines.{log_of}
+use Rattle.resin_program.specs.Programs.{KeeperCall}
+use Rattle.resin_program.specs.Runs.{Reached}
 use Rattle.resin_site.specs.Replies as site
 use Rattle.resin_serve.specs.Asked.{is_unbuilt, recorded, meaning}
 use Rattle.resin_serve.specs.Records.{record_text}
@@ -95,18 +97,17 @@ amid_then : (R : Meaning) (K : List ℕ) (s : St) (n m : ℕ) (xs ys : List Owed
 amid_then R K s n m xs ys old mid new e a h =
     let num : m + length h.done ≡ n + length (xs ++ h.done) = omega (arith, length-append xs h.done) in
     let st : after_of R K (after_of R K s n xs) m h.done ≡ after_of R K s n (xs ++ h.done) = sym (after_append R K s n m xs h.done e) in
-    let to_st : after_of R K (after_of R K s n xs) m (h.done ++ h.now ∷ []) ≡ after_of R K s n ((xs ++ h.done) ++ h.now ∷ []) =
-    sym (after_append R K s n m xs (h.done ++ h.now ∷ []) e) ∙ ap (after_of R K s n) (sym (append_assoc xs h.done (h.now ∷ []))) in
     record {
       done = xs ++ h.done;
       now = h.now;
       later = h.later;
       is = ap (λ l. xs ++ l) h.is ∙ sym (append_assoc xs h.done (h.now ∷ h.later));
       gained = subst (Gained old new) (sym (bytes_append R K s n m xs h.done e)) (gained_trans old mid new _ _ a h.gained);
-      from = subst (λ (t : St). t.made ≤ new.made) st h.from;
-      to = subst (λ (t : St). new.made ≤ t.made) to_st h.to;
-      state = h.state ∙ ap (λ k. Some ((reply R K (after_of R K (after_of R K s n xs) m h.done) k h.now).store_at new.made)) num
-          ∙ ap (λ t. Some ((reply R K t (n + length (xs ++ h.done)) h.now).store_at new.made)) st;
+      at = h.at;
+      reached = subst (λ t. Reached h.at (reply R K t (n + length (xs ++ h.done)) h.now).moments) st
+          (subst (λ k. Reached h.at (reply R K (after_of R K (after_of R K s n xs) m h.done) k h.now).moments) num h.reached);
+      made = h.made ∙ ap (λ (t : St). t.made + length h.at.calls) st;
+      state = h.state;
     }
 
 meeting_then : (R : Meaning) (K : List ℕ) (s : St) (n m : ℕ) (xs ys : List Owed) (old mid new : World)
@@ -189,8 +190,9 @@ more_from Memory Q R K s n xs ys old new ne (inr (inr h)) = inr (inr (record {
   later = h.later ++ ys;
   is = ap (λ l. l ++ ys) h.is ∙ append_assoc h.done (h.now ∷ h.later) ys;
   gained = h.gained;
-  from = h.from;
-  to = h.to;
+  at = h.at;
+  reached = h.reached;
+  made = h.made;
   state = h.state;
 }))
 more_from NotYet Q R K s n xs ys old new ne h = record {
@@ -277,28 +279,28 @@ one_from Fault Q R K s n x old new q a i = one_given Fault Q R K s n x old new a
 one_from NotYet Q R K s n x old new q a i = absurd a.lost_is
 one_from Memory Q R K s n x old new q a i = inl (one_given Memory (λ _. ⊤) R K s n x old new a.got a.lost tt a.split a.lost_is a.gained i)
 
--- the mail and the response of an outcome are the reply's
-texts_of : (g : Given) (conn : ℕ) (mails response : List ℕ) (r : site.Reply) (old new : World) → [] ≡ r.log → mails ≡ r.mail → response ≡ r.response
-    → GaveAll g (three [] mails (record_text conn response)) old new → GaveAll g (tagged (recorded conn r)) old new
-texts_of g conn mails response r old new l m t h =
+-- the log, the mail and the response of an outcome are the reply's
+texts_of : (g : Given) (conn : ℕ) (lines mails response : List ℕ) (r : site.Reply) (old new : World) → lines ≡ r.log → mails ≡ r.mail → response ≡ r.response
+    → GaveAll g (three lines mails (record_text conn response)) old new → GaveAll g (tagged (recorded conn r)) old new
+texts_of g conn lines mails response r old new l m t h =
     subst (λ x. GaveAll g (three x r.mail (record_text conn r.response)) old new) l
-    (subst (λ x. GaveAll g (three [] x (record_text conn r.response)) old new) m
-    (subst (λ x. GaveAll g (three [] mails (record_text conn x)) old new) t h))
+    (subst (λ x. GaveAll g (three lines x (record_text conn r.response)) old new) m
+    (subst (λ x. GaveAll g (three lines mails (record_text conn x)) old new) t h))
 
--- no answer has lines for the log yet
-no_log : (fuel : ℕ) (K : List ℕ) (s : Store) (made n : ℕ) (r : Request) → [] ≡ (site.request fuel K s made n r).log
+-- the log of a request's answer is that of its journal
+logs : (fuel : ℕ) (K : List ℕ) (s : Store) (made n : ℕ) (r : Request) (j : EventList) → j ≡ (site.request fuel K s made n r).journal → log_of n j ≡ (site.request fuel K s made n r).log
 unfolding site.request
-no_log fuel K s made n r = elim (is_open (path_of r.target)) as (λ b. [] ≡ (cond b (site.reply_finding s (path_of r.target) (site.is_head r.method) (find K fuel s.files made (path_of r.target))) (site.reply_with s made (not_found (site.is_head r.method)))).log) [ true ↦ refl | false ↦ refl ]
+logs fuel K s made n r j e = ap (log_of n) e
 
 -- a request's answer was given as far as it was
-pub ran_gave : (g : Given) (Q : Owed → Type 0) (fuel : ℕ) (K : List ℕ) (n conn place : ℕ) (r : Request) (o : Outcome) (mails response : List ℕ) (old mid new : World)
-    → Q (record { conn = conn; asked = asks r; place = place }) → mails ≡ o.mail → response ≡ o.response → GaveAll g (three [] mails (record_text conn response)) old new
-    → Served fuel K old.store old.made n r (Ok o) mid.store mid.made → new.store ≡ mid.store → new.made ≡ mid.made
+pub ran_gave : (g : Given) (Q : Owed → Type 0) (Called : List KeeperCall → Type 0) (fuel : ℕ) (K : List ℕ) (n conn place : ℕ) (r : Request) (o : Outcome) (old mid new : World)
+    → Q (record { conn = conn; asked = asks r; place = place }) → GaveAll g (three (log_of n o.journal) o.mail (record_text conn o.response)) old new
+    → Served fuel K old.store old.made n r Called (Ok o) mid.store mid.made → new.store ≡ mid.store → new.made ≡ mid.made
     → Ran g Q (meaning fuel) K n (record { conn = conn; asked = asks r; place = place } ∷ []) old new
 unfolding Ran
-ran_gave g Q fuel K n conn place r o mails response old mid new q m p a h st ma = where_then old.store _ _ (λ s t.
+ran_gave g Q Called fuel K n conn place r o old mid new q a h st ma = where_then old.store _ _ (λ s t.
     one_from g Q (meaning fuel) K (record { store = s; made = old.made }) n (record { conn = conn; asked = asks r; place = place }) old new q
-    (texts_of g conn mails response (site.request fuel K s old.made n r) old new (no_log fuel K s old.made n r) (m ∙ t.says.mail) (p ∙ t.says.response) a)
+    (texts_of g conn (log_of n o.journal) o.mail o.response (site.request fuel K s old.made n r) old new (logs fuel K s old.made n r o.journal t.says.journal) t.says.mail t.says.response a)
     (ma ∙ t.made_is, st ∙ t.store_is)) h
 
 pub gained_same : (old new : World) → new.log ≡ old.log → new.mail ≡ old.mail → new.out ≡ old.out → Gained old new []
@@ -309,12 +311,12 @@ gained_same old new l m u = record {
 }
 
 -- a request's calls were made in part, for want of memory
-pub ran_amid : (Q : Owed → Type 0) (fuel : ℕ) (K : List ℕ) (n conn place : ℕ) (r : Request) (e : AllocError) (old new : World)
+pub ran_amid : (Q : Owed → Type 0) (Called : List KeeperCall → Type 0) (fuel : ℕ) (K : List ℕ) (n conn place : ℕ) (r : Request) (e : AllocError) (old new : World)
     → new.log ≡ old.log → new.mail ≡ old.mail → new.out ≡ old.out
-    → Served fuel K old.store old.made n r (Err e) new.store new.made
+    → Served fuel K old.store old.made n r Called (Err e) new.store new.made
     → Ran Memory Q (meaning fuel) K n (record { conn = conn; asked = asks r; place = place } ∷ []) old new
 unfolding Ran
-ran_amid Q fuel K n conn place r e old new l m u h = where_then old.store _ _ (λ s t.
+ran_amid Q Called fuel K n conn place r e old new l m u h = where_then old.store _ _ (λ s t.
     let z : n ≡ n + 0 = omega arith in
     inr (inr (record {
       done = [];
@@ -322,18 +324,19 @@ ran_amid Q fuel K n conn place r e old new l m u h = where_then old.store _ _ (�
       later = [];
       is = refl;
       gained = gained_same old new l m u;
-      from = t.from;
-      to = t.to;
-      state = subst (λ k. new.store ≡ Some ((reply (meaning fuel) K (record { store = s; made = old.made }) k (record { conn = conn; asked = asks r; place = place })).store_at new.made)) z t.store_is;
+      at = t.at;
+      reached = subst (λ k. Reached t.at (reply (meaning fuel) K (record { store = s; made = old.made }) k (record { conn = conn; asked = asks r; place = place })).moments) z t.reached;
+      made = t.made_is;
+      state = t.store_is;
     }))) h
 
 -- a request met what isn't built
-pub ran_met : (Q : Owed → Type 0) (fuel : ℕ) (K : List ℕ) (n conn place : ℕ) (r : Request) (o : Outcome) (old new : World)
+pub ran_met : (Q : Owed → Type 0) (Called : List KeeperCall → Type 0) (fuel : ℕ) (K : List ℕ) (n conn place : ℕ) (r : Request) (o : Outcome) (old new : World)
     → new.log ≡ old.log → new.mail ≡ old.mail → new.out ≡ old.out → o.end ≡ Unbuilt
-    → Served fuel K old.store old.made n r (Ok o) new.store new.made
+    → Served fuel K old.store old.made n r Called (Ok o) new.store new.made
     → Ran NotYet Q (meaning fuel) K n (record { conn = conn; asked = asks r; place = place } ∷ []) old new
 unfolding Ran
-ran_met Q fuel K n conn place r o old new l m u e h = where_then old.store _ _ (λ s t.
+ran_met Q Called fuel K n conn place r o old new l m u e h = where_then old.store _ _ (λ s t.
     let z : n ≡ n + 0 = omega arith in
     record {
       done = [];
@@ -354,7 +357,7 @@ pub ran_refused : (g : Given) (Q : Owed → Type 0) (fuel : ℕ) (K : List ℕ) 
 unfolding Ran
 ran_refused g Q fuel K n conn status place response old new q a st ma e = told_with old.store _ (λ s i.
     one_from g Q (meaning fuel) K (record { store = s; made = old.made }) n (record { conn = conn; asked = refuses status; place = place }) old new q
-    (texts_of g conn [] response (site.refusal s old.made status) old new refl refl e a) (ma, st ∙ i))
+    (texts_of g conn [] [] response (site.refusal s old.made status) old new refl refl e a) (ma, st ∙ i))
 
 -- of a whole run nothing is said of an answer whose bytes were being given
 pub ran_any : (Q Q' : Owed → Type 0) (R : Meaning) (K : List ℕ) (n : ℕ) (xs : List Owed) (old new : World) → Ran Whole Q R K n xs old new → Ran Whole Q' R K n xs old new

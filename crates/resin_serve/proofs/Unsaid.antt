@@ -14,18 +14,18 @@ some_record conn response e =
     let n : length (record_text conn response) ≡ 0 = ap length e in
     omega (arith, length-append {A = ℕ})
 
-some_three : (mails : List ℕ) (conn : ℕ) (response : List ℕ) → three [] mails (record_text conn response) ≢ []
-some_three mails conn response e =
-    let n : length (three [] mails (record_text conn response)) ≡ 0 = ap length e in
+some_three : (lines mails : List ℕ) (conn : ℕ) (response : List ℕ) → three lines mails (record_text conn response) ≢ []
+some_three lines mails conn response e =
+    let n : length (three lines mails (record_text conn response)) ≡ 0 = ap length e in
     let l : length (record_text conn response) ≡ 0 = omega (arith, length-append {A = ℕ × ℕ}, length-map {A = ℕ} {B = ℕ × ℕ}) in
     some_record conn response (Rattle.std.proofs.lemmas.List.nil_from_length (record_text conn response) l)
 
-pub unsaid : (mails : List ℕ) (conn : ℕ) (response : List ℕ) (log mail out : Option (List ℕ)) (store store' : Option Store) (made made' : ℕ)
-    → GaveAll Memory (three [] mails (record_text conn response)) (world log mail out store made) (world log mail out store' made')
-unsaid mails conn response log mail out store store' made made' = record {
+pub unsaid : (lines mails : List ℕ) (conn : ℕ) (response : List ℕ) (log mail out : Option (List ℕ)) (store store' : Option Store) (made made' : ℕ)
+    → GaveAll Memory (three lines mails (record_text conn response)) (world log mail out store made) (world log mail out store' made')
+unsaid lines mails conn response log mail out store store' made made' = record {
   got = [];
-  lost = three [] mails (record_text conn response);
+  lost = three lines mails (record_text conn response);
   split = refl;
-  lost_is = some_three mails conn response;
+  lost_is = some_three lines mails conn response;
   gained = gained_same (world log mail out store made) (world log mail out store' made') refl refl refl;
 }

@@ -46,12 +46,11 @@ RoseBy old new count =
     (old.file_faults ≤ new.file_faults) × (old.table_faults ≤ new.table_faults)
     × (new.file_faults < last_count → new.table_faults < last_count → (old.file_faults + old.table_faults) + count ≤ new.file_faults + new.table_faults)
 
--- calls were made, in order, and they are numbered, listed where they failed, and told; for now all are on the files
+-- calls were made, in order, and they are numbered, listed where they failed, and told
 pub record Kept (old new : Keepers) : Type 0 where
   pub calls : List Call
   pub made : new.made ≡ old.made + length calls
   pub failed : new.failed ≡ old.failed ++ failed_after old.made calls
   pub files : TellsMore old.file_answers new.file_answers (of_files calls)
   pub tables : TellsMore old.table_answers new.table_answers (of_tables calls)
-  pub on_files : of_tables calls ≡ []
   pub rose : RoseBy old new (length (failed_after old.made calls))

@@ -1,19 +1,20 @@
 -- The meaning of a run (this project): what each stream is owed, in the order in which records complete it, and one request after another.
 use Rattle.std.specs.Prelude.{ℕ, ◌+◌, ◌==◌, Bool, List, [], ◌∷◌, ◌++◌, length, drop, map, if◌then◌else◌}
-use Rattle.resin_site.specs.Keeping.{Store, St}
+use Rattle.resin_program.specs.Programs.{Moment}
+use Rattle.resin_site.specs.Keeping.{St}
 use Rattle.resin_trace.specs.declared.event.TraceEvent.{TraceEvent}
 use Rattle.resin_trace.specs.declared.event.TraceEvent.TheVariants.{Piece, End}
 use Rattle.resin_http.specs.Stream.{Answer, answers}
 
--- what an answer gives to the three sinks, whether it meets what isn't built, the state after it, and what the keepers hold after each
--- number of its calls
+-- what an answer gives to the three sinks, whether it meets what isn't built, the state after it, and the moments that it goes through: each with
+-- what the keepers hold then and the answer's keeper calls until then
 pub record Reply : Type 0 where
   pub log : List ℕ
   pub mail : List ℕ
   pub out : List ℕ
   pub not_yet : Bool
   pub after : St
-  pub store_at : ℕ → Store
+  pub moments : List Moment
 
 -- the numbers of the failing calls, the state, the number of the answer, the connection, what is asked
 abbrev pub Meaning : Type 0

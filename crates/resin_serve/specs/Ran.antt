@@ -1,7 +1,9 @@
 -- How far a run came (this project).
-use Rattle.std.specs.Prelude.{◌≡◌, ◌≢◌, ℕ, ◌+◌, ◌≤◌, ◌==◌, true, List, [], ◌∷◌, ◌++◌, length, if◌then◌else◌, Option, Some, None, ⊤, ◌⊎◌}
+use Rattle.std.specs.Prelude.{◌≡◌, ◌≢◌, ℕ, ◌+◌, ◌==◌, true, List, [], ◌∷◌, ◌++◌, length, if◌then◌else◌, Option, Some, None, ⊤, ◌⊎◌}
 use Rattle.resin_serve.specs.declared.give.Given.{Given}
 use Rattle.resin_serve.specs.declared.give.Given.TheVariants.{Whole, Fault, Memory, NotYet}
+use Rattle.resin_program.specs.Programs.{Moment}
+use Rattle.resin_program.specs.Runs.{Reached}
 use Rattle.resin_site.specs.Keeping.{Store, St, WhereTold}
 use Rattle.resin_serve.specs.Meaning.{Meaning, Owed, tagged, reply, bytes_of, after_of}
 
@@ -59,16 +61,17 @@ pub record Before (R : Meaning) (K : List ℕ) (s : St) (number : ℕ) (xs : Lis
   pub gained : Gained old new (bytes_of R K s number done)
   pub state : IsState new (after_of R K s number done)
 
--- .. or amid the keeper calls of one
+-- .. or amid an answer: at one of its moments, with what the keepers held then, and after the keeper calls that it had made until then
 pub record Amid (R : Meaning) (K : List ℕ) (s : St) (number : ℕ) (xs : List Owed) (old new : World) : Type 0 where
   pub done : List Owed
   pub now : Owed
   pub later : List Owed
+  pub at : Moment
   pub is : xs ≡ done ++ now ∷ later
   pub gained : Gained old new (bytes_of R K s number done)
-  pub from : (after_of R K s number done).made ≤ new.made
-  pub to : new.made ≤ (after_of R K s number (done ++ now ∷ [])).made
-  pub state : new.store ≡ Some ((reply R K (after_of R K s number done) (number + length done) now).store_at new.made)
+  pub reached : Reached at (reply R K (after_of R K s number done) (number + length done) now).moments
+  pub made : new.made ≡ (after_of R K s number done).made + length at.calls
+  pub state : new.store ≡ Some at.store
 
 -- the run met what isn't built, after everything before it was served
 pub record Meeting (R : Meaning) (K : List ℕ) (s : St) (number : ℕ) (xs : List Owed) (old new : World) : Type 0 where

@@ -8,6 +8,7 @@ ghost use Rattle.resin_serve.specs.Gives.{CausedIn, GaveAll, counts, sinks, thre
 ghost use Rattle.resin_serve.specs.Kept.{Kept, keepers};
 ghost use Rattle.resin_site.specs.Keeping.{Store, Later, store_of};
 ghost use Rattle.resin_base.specs.Numbering.{AreNumbered};
+ghost use Rattle.resin_journal.specs.Lines.{log_of};
 ghost use Rattle.resin_serve.specs.Records.{record_text};
 ghost use Rattle.resin_serve.specs.Asked.{meaning};
 ghost use Rattle.resin_serve.specs.Lines.{still, asked, Hold};
@@ -18,7 +19,7 @@ use crate::output::output_record;
 use crate::waiting::WaitingStreams;
 use resin_base::{Calls, Files, Sink, Tables};
 use resin_http::{Request, Step};
-use resin_site::{End, Site, refusal, serve_one};
+use resin_site::{End, Outcome, Site, log_text, refusal, serve_one};
 use resin_trace::{TraceEvent, TraceFault, TraceReader};
 use std::alloc::Global;
 
@@ -32,19 +33,20 @@ pub(crate) struct Run {
     pub(crate) connections: WaitingStreams,
 }
 
-/// Gives an answer: its mail records, and the record of its response.
+/// Gives an answer: the lines of its log, then its mail records, then the record of its response.
 pub(crate) fn give_answer<L: Sink, M: Sink, O: Sink>(
     run: &mut Run,
     log: &mut L,
     mail: &mut M,
     out: &mut O,
     conn: u16,
+    lines: &[u8],
     mails: &[u8],
     response: &[u8],
 ) -> Given
     ensures same { (run.new.site ≡ run.old.site) × (run.new.connections ≡ run.old.connections) × (run.new.calls ≡ run.old.calls) }
     ensures gave { (store : Option Store) (made : ℕ) (store' : Option Store) (made' : ℕ)
-        → GaveAll result (three [] mails.now (record_text conn response.now)) (world (L.written log.old) (M.written mail.old) (O.written out.old) store made)
+        → GaveAll result (three lines.now mails.now (record_text conn response.now)) (world (L.written log.old) (M.written mail.old) (O.written out.old) store made)
         (world (L.written log.new) (M.written mail.new) (O.written out.new) store' made') }
     ensures number { OnWhole result (run.new.number ≡ run.old.number + 1) }
     ensures cause { CausedIn result
@@ -58,7 +60,40 @@ pub(crate) fn give_answer<L: Sink, M: Sink, O: Sink>(
         return Given::Memory;
     };
     run.number = next;
-    give_three(log, mail, out, &[], mails, record.as_slice())
+    give_three(log, mail, out, lines, mails, record.as_slice())
+}
+
+// Gives an outcome: the lines of its denials, its mail records, and the record of its response.
+fn give_outcome<L: Sink, M: Sink, O: Sink>(
+    run: &mut Run,
+    log: &mut L,
+    mail: &mut M,
+    out: &mut O,
+    conn: u16,
+    outcome: &Outcome,
+) -> Given
+    ensures same { (run.new.site ≡ run.old.site) × (run.new.connections ≡ run.old.connections) × (run.new.calls ≡ run.old.calls) }
+    ensures gave { (store : Option Store) (made : ℕ) (store' : Option Store) (made' : ℕ)
+        → GaveAll result (three (log_of run.old.number outcome.now.journal) outcome.now.mail (record_text conn outcome.now.response)) (world (L.written log.old) (M.written mail.old) (O.written out.old) store made)
+        (world (L.written log.new) (M.written mail.new) (O.written out.new) store' made') }
+    ensures number { OnWhole result (run.new.number ≡ run.old.number + 1) }
+    ensures cause { CausedIn result
+        (sinks (counts (L.faults log.old) (L.stalls log.old)) (counts (M.faults mail.old) (M.stalls mail.old)) (counts (O.faults out.old) (O.stalls out.old)))
+        (sinks (counts (L.faults log.new) (L.stalls log.new)) (counts (M.faults mail.new) (M.stalls mail.new)) (counts (O.faults out.new) (O.stalls out.new))) }
+{
+    let Ok(lines) = log_text(run.alloc, run.number, &outcome.journal) else {
+        return Given::Memory;
+    };
+    give_answer(
+        run,
+        log,
+        mail,
+        out,
+        conn,
+        lines.as_slice(),
+        outcome.mail.as_slice(),
+        outcome.response.as_slice(),
+    )
 }
 
 /// Serves a request, and gives its answer.
@@ -100,17 +135,8 @@ pub(crate) fn serve_request<F: Files, T: Tables, L: Sink, M: Sink, O: Sink>(
     };
     match outcome.end {
         End::NotYet => Given::NotYet,
-        End::Served | End::NotFound | End::Keeper => {
-            let mails = outcome.mail.as_slice();
-            give_answer(
-                run,
-                log,
-                mail,
-                out,
-                conn,
-                mails,
-                outcome.response.as_slice(),
-            )
+        End::Served | End::NotFound | End::Uncaught(_) | End::Fault(_, _) | End::Keeper => {
+            give_outcome(run, log, mail, out, conn, &outcome)
         }
     }
 }
@@ -137,7 +163,7 @@ pub(crate) fn serve_refusal<L: Sink, M: Sink, O: Sink>(
     let Ok(response) = refusal(run.alloc, status) else {
         return Given::Memory;
     };
-    give_answer(run, log, mail, out, conn, &[], response.as_slice())
+    give_answer(run, log, mail, out, conn, &[], &[], response.as_slice())
 }
 
 /// Serves the answers that stand on a connection, on which something came.

@@ -511,7 +511,7 @@ fn output_of(
     let mut mail = CalmSink::new(alloc);
     let mut files = site_of(alloc, 0)?;
     if with_boot {
-        files.put(b"boot.php", b"x", b"")?;
+        files.put(b"boot.php", b"<?php include 'a.php';", b"")?;
     }
     let mut tables = CalmTables::new(alloc);
     let ended = serve(
@@ -550,6 +550,54 @@ fn serves_any_cutting_alike(rt: HostRuntime) -> Result<(), Fail> {
         assert_eq!(rt; status, Status::Ok);
         assert!(rt; out.written() == expected.written(), "cut at {cut}");
     }
+    Ok(())
+}
+
+/// Each answer gives the lines of its denials to the log and its mail records to the mail, under its own number.
+#[test]
+fn denials_and_mails_are_given(rt: HostRuntime) -> Result<(), Fail> {
+    let alloc = rt.alloc();
+    let words = words_of(alloc, "serve")?;
+    let mut trace = Bytes::new(alloc);
+    push_piece(alloc, &mut trace, b"GET /a.php HTTP/1.1\r\n\r\n")?;
+    push_piece(alloc, &mut trace, b"GET /deny.php HTTP/1.1\r\n\r\n")?;
+    push_piece(alloc, &mut trace, b"GET /mail.php HTTP/1.1\r\n\r\n")?;
+    let mut source = CalmSource::new(trace);
+    let mut out = CalmSink::new(alloc);
+    let mut log = CalmSink::new(alloc);
+    let mut mail = CalmSink::new(alloc);
+    let mut files = site_of(alloc, 0)?;
+    files.put(
+        b"deny.php",
+        b"<?php echo 'a' . policy_add('secret', new NoExport()) . 'b';",
+        b"",
+    )?;
+    files.put(b"mail.php", b"<?php mail('u@foo.com', 's', 'm');", b"")?;
+    let mut tables = CalmTables::new(alloc);
+    let ended = serve(
+        alloc,
+        &words,
+        &mut source,
+        &mut out,
+        &mut log,
+        &mut mail,
+        &mut files,
+        &mut tables,
+    );
+    assert_eq!(rt; ended.status, Status::Ok);
+    assert_eq!(rt; ended.made, 6);
+    assert_eq!(rt;
+        log.written(),
+        b"deny request=2 write=1 channel=http policy=NoExport#1 bytes=1-7 by=PolicyException\n".as_slice()
+    );
+    assert_eq!(rt;
+        mail.written(),
+        b"mail request=3 len=13\nu@foo.com\ns\nm\n".as_slice()
+    );
+    assert_eq!(rt;
+        out.written().len(),
+        (5 + 80 + 1) + (6 + 123 + 1) + (5 + 78 + 1)
+    );
     Ok(())
 }
 

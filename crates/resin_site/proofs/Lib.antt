@@ -1,4 +1,5 @@
-pub mod CallLemmas
-pub mod ContainsLemmas
-pub mod FindLemmas
-pub mod ServeLemmas
+pub mod Keepers
+pub mod Ended
+pub mod Lawful
+pub mod Made
+pub mod Told

@@ -1,13 +1,15 @@
 -- What the keepers hold over the calls of a run, and which of the calls fail (this project).
-use Rattle.std.specs.Prelude.{◌≡◌, ℕ, zero, suc, ◌+◌, ◌-◌, ◌<◌, Bool, List, [], ◌∷◌, ◌++◌, All, Option, Some, None, ⊤, ◌⊎◌}
-use Rattle.resin_base.specs.Causes.{Counted, TellsMore, is_listed}
+use Rattle.std.specs.Prelude.{◌≡◌, ℕ, ◌+◌, ◌<◌, false, true, List, [], ◌∷◌, ◌++◌, length, All, Bool, Option, Some, None, ⊤, ◌⊎◌}
+use Rattle.resin_base.specs.Causes.{Counted, TellsMore}
 use Rattle.resin_base.specs.FileStore.{FileStore}
 use Rattle.resin_base.specs.TableStore.{TableStore}
+use Rattle.resin_program.specs.Programs.{KeeperCall}
+use Rattle.resin_program.specs.Programs as programs
+use Rattle.resin_program.specs.Runs.{failures}
 
 -- what the keepers hold
-pub record Store : Type 0 where
-  pub files : FileStore
-  pub tables : TableStore
+abbrev pub Store : Type 0
+Store = programs.Store
 
 -- what the keepers hold, and how many calls were made on them
 pub record St : Type 0 where
@@ -38,15 +40,6 @@ pub record Later (made : ℕ) (failed K : List ℕ) : Type 0 where
 abbrev pub Passes : ℕ → List ℕ → ℕ → List ℕ → Type 0
 Passes made failed made' failed' = (K : List ℕ) → Later made' failed' K → Later made failed K
 
--- which of the next calls fail, after those that were made
-abbrev pub fails_from : List ℕ → ℕ → ℕ → List Bool
-fails_from K made zero = []
-fails_from K made (suc n) = is_listed K (made + 1) ∷ fails_from K (made + 1) n
-
--- the answers that a keeper of files tells grew by those of the calls made: true exactly for the calls that are listed as failing
-abbrev pub TellsCalls : Option (List Bool) → Option (List Bool) → ℕ → ℕ → List ℕ → Type 0
-TellsCalls old new made made' failed' = (K : List ℕ) → Later made' failed' K → TellsMore old new (fails_from K made (made' - made))
-
 -- the counts of faults of both keepers
 pub record Faults : Type 0 where
   pub files : ℕ
@@ -60,3 +53,18 @@ abbrev pub Blames : ℕ → List ℕ → Faults → ℕ → List ℕ → Faults 
 Blames made failed old made' failed' new =
     ((failed' ≡ failed) × (new ≡ old))
     ⊎ ((failed' ≡ failed ++ made' ∷ []) × (made < made') × (Counted old.files new.files ⊎ Counted old.tables new.tables))
+
+-- which of their calls failed, where each keeper tells it
+pub record Answers : Type 0 where
+  pub files : Option (List Bool)
+  pub tables : Option (List Bool)
+
+abbrev pub answers : Option (List Bool) → Option (List Bool) → Answers
+answers files tables = record { files = files; tables = tables }
+
+-- these calls were made: they are counted, and the answers that a keeper tells grew by those of the calls on it, true exactly for the calls that
+-- are listed as failing
+pub record Tells (calls : List KeeperCall) (old new : Answers) (before now : ℕ) (failed : List ℕ) : Type 0 where
+  pub made : now ≡ before + length calls
+  pub files : TellsMore old.files new.files (failures false failed before calls)
+  pub tables : TellsMore old.tables new.tables (failures true failed before calls)

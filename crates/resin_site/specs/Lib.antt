@@ -1,7 +1,5 @@
 pub mod Keeping
-pub mod Paths
-pub mod Looks
-pub mod Steps
 pub mod Outcomes
+pub mod Laws
 pub mod Replies
 pub mod Serving

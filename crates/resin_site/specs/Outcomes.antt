@@ -1,39 +1,89 @@
 -- The outcomes of requests, and the response of a refusal (this project).
-use Rattle.std.specs.Prelude.{ℕ, Bool, false, List, [], ◌++◌, codes, decimal}
+use Rattle.std.specs.Prelude.{ℕ, Bool, true, false, List, [], ◌++◌, codes, decimal, Result, Ok, Err, if◌then◌else◌}
 use Rattle.resin_http.specs.Response.{response}
+use Rattle.resin_scalar.specs.Faults.{fault_name}
+use Rattle.resin_stage.specs.Stages.{Stage}
+use Rattle.resin_machine.specs.declared.stop.Stop.{Stop}
+use Rattle.resin_machine.specs.declared.stop.Stop.TheVariants.{Thrown, Memory}
+use Rattle.resin_machine.specs.declared.stop.Stop.TheVariants as stop
+use Rattle.resin_machine.specs.State.{State}
+use Rattle.resin_machine.specs.Leaving.{class_name_of}
+use Rattle.resin_request.specs.declared.request.Finish.{Finish}
+use Rattle.resin_request.specs.declared.request.Finish.TheVariants as finish
+use Rattle.resin_request.specs.Paths.{kind_of, plain_kind}
 use Rattle.resin_site.specs.declared.outcome.End.{End}
-use Rattle.resin_site.specs.declared.outcome.End.TheVariants.{Served, NotFound, Keeper}
-use Rattle.resin_site.specs.declared.outcome.End.TheVariants.{NotYet as Unbuilt}
+use Rattle.resin_site.specs.declared.outcome.End.TheVariants.{Served, NotFound, Uncaught, Fault, Keeper, NotYet}
 use Rattle.resin_site.specs.declared.outcome.Outcome.{Outcome}
-use Rattle.resin_site.specs.declared.page.Found.{Found}
-use Rattle.resin_site.specs.declared.page.Found.TheVariants.{NotYet, Fault, Absent, Page}
-use Rattle.resin_site.specs.Paths.{kind_of, plain_kind}
 
--- an outcome without headers and mail: the response is made of its parts
-abbrev pub outcome_of : End → ℕ → List ℕ → List ℕ → Bool → Outcome
-outcome_of end status kind body head_only = record {
+-- how a request ends, by how its steps came to their end and the state that they left; no meaning ends by `exit` or for want of memory
+abbrev pub end_of : Result Finish Stop → State → End
+end_of (Ok finish.Answered) m = Served
+end_of (Ok finish.Missing) m = NotFound
+end_of (Ok finish.NotYet) m = NotYet
+end_of (Err (Thrown o)) m = Uncaught (class_name_of o m)
+end_of (Err stop.Exit) m = Served
+end_of (Err (stop.Fault f line)) m = Fault f line
+end_of (Err stop.Keeper) m = Keeper
+end_of (Err Memory) m = NotYet
+
+-- the status of a request that ends so, whose scripts set this one
+abbrev pub status_of : End → ℕ → ℕ
+status_of Served own = own
+status_of NotFound own = 404
+status_of (Uncaught class) own = 500
+status_of (Fault f line) own = 500
+status_of Keeper own = 503
+status_of NotYet own = 0
+
+-- the text that the end puts behind the body
+abbrev pub fixed_text : End → List ℕ
+fixed_text Served = []
+fixed_text NotFound = codes "Not found\n"
+fixed_text (Uncaught class) = codes "Uncaught " ++ class ++ codes "\n"
+fixed_text (Fault f line) = codes "Script fault " ++ fault_name f ++ codes " at line " ++ decimal line ++ codes "\n"
+fixed_text Keeper = codes "Keeper fault\n"
+fixed_text NotYet = []
+
+-- the type of the answer for a path, where no header tells it
+abbrev pub kind_at : End → List ℕ → List ℕ
+kind_at NotFound path = plain_kind
+kind_at Served path = kind_of path
+kind_at (Uncaught class) path = kind_of path
+kind_at (Fault f line) path = kind_of path
+kind_at Keeper path = kind_of path
+kind_at NotYet path = kind_of path
+
+-- the outcome of a request that ends so, with what left: the body that went out and the fixed text, and the response that is made of the parts
+abbrev pub with_parts : List ℕ → Bool → End → Stage → Outcome
+with_parts path head_only end s = record {
   end = end;
-  status = status;
-  headers = [];
-  body = body;
-  response = response status [] kind body head_only;
-  mail = [];
+  status = status_of end s.status;
+  headers = s.headers;
+  body = s.body ++ fixed_text end;
+  response = response (status_of end s.status) s.headers (kind_at end path) (s.body ++ fixed_text end) head_only;
+  mail = s.mail;
+  journal = s.journal;
 }
 
 -- what isn't built gives nothing
 abbrev pub unbuilt : Outcome
-unbuilt = record { end = Unbuilt; status = 0; headers = []; body = []; response = []; mail = [] }
+unbuilt = record { end = NotYet; status = 0; headers = []; body = []; response = []; mail = []; journal = [] }
 
--- there is no such file
-abbrev pub not_found : Bool → Outcome
-not_found head_only = outcome_of NotFound 404 plain_kind (codes "Not found\n") head_only
+-- the end is that of what isn't built
+abbrev pub is_unbuilt : End → Bool
+is_unbuilt Served = false
+is_unbuilt NotFound = false
+is_unbuilt (Uncaught class) = false
+is_unbuilt (Fault f line) = false
+is_unbuilt Keeper = false
+is_unbuilt NotYet = true
 
--- the outcome of what a request found at a path
-abbrev pub outcome_found : List ℕ → Bool → Found → Outcome
-outcome_found path head_only NotYet = unbuilt
-outcome_found path head_only Fault = outcome_of Keeper 503 (kind_of path) (codes "Keeper fault\n") head_only
-outcome_found path head_only Absent = not_found head_only
-outcome_found path head_only (Page text) = outcome_of Served 200 (kind_of path) text head_only
+abbrev pub outcome_of : List ℕ → Bool → End → Stage → Outcome
+outcome_of path head_only end s = if is_unbuilt end then unbuilt else with_parts path head_only end s
+
+-- the outcome of a request for a path, by how its steps came to their end and the state that they left
+abbrev pub outcome : List ℕ → Bool → Result Finish Stop → State → Outcome
+outcome path head_only end m = outcome_of path head_only (end_of end m) m.stage
 
 -- the body of a refusal
 abbrev pub refused : ℕ → List ℕ

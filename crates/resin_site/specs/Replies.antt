@@ -1,19 +1,25 @@
 -- What a request means (this project): how it ends, its answer, and what the keepers hold after it.
-use Rattle.std.specs.Prelude.{ℕ, Bool, false, true, List, [], Option, Some, None, if◌then◌else◌}
+use Rattle.std.specs.Prelude.{ℕ, Bool, false, true, List, [], ◌∷◌, ◌++◌, Option, Some, None}
 use Rattle.resin_bytes.specs.declared.header.Header.{Header}
 use Rattle.resin_http.specs.declared.request.Method.{Method}
 use Rattle.resin_http.specs.declared.request.Method.TheVariants.{Get, Head, Post}
 use Rattle.resin_http.specs.declared.request.Request.{Request}
 use Rattle.resin_http.specs.Stream.{Answer, asks, refuses}
+use Rattle.resin_http.specs.Inputs.{inputs_of}
+use Rattle.resin_journal.specs.Events.{EventList}
+use Rattle.resin_journal.specs.Lines.{log_of}
+use Rattle.resin_machine.specs.State.{new_state}
+use Rattle.resin_program.specs.Programs.{Whole, KeeperCall, Moment, moment, Out}
+use Rattle.resin_request.specs.declared.request.Finish.{Finish}
+use Rattle.resin_request.specs.Paths.{path_of}
+use Rattle.resin_request.specs.Requests.{request_program}
 use Rattle.resin_site.specs.declared.outcome.End.{End}
 use Rattle.resin_site.specs.declared.outcome.Outcome.{Outcome}
 use Rattle.resin_site.specs.Keeping.{Store, St, state}
-use Rattle.resin_site.specs.Paths.{path_of, is_open}
-use Rattle.resin_site.specs.Looks.{Finding, find}
-use Rattle.resin_site.specs.Outcomes.{outcome_found, not_found, refused, refusal_text}
+use Rattle.resin_site.specs.Outcomes.{outcome, refused, refusal_text}
 
--- an answer: how it ended (nothing where the stream was refused), the parts of its response, its mail and its log, the state after it, and
--- what the keepers hold after each number of its calls
+-- an answer: how it ended (nothing where the stream was refused), the parts of its response, its mail, its journal and its log, the state after it,
+-- the keeper calls that it made, and the moments that it went through
 pub record Reply : Type 0 where
   pub end : Option End
   pub status : ℕ
@@ -21,23 +27,11 @@ pub record Reply : Type 0 where
   pub body : List ℕ
   pub response : List ℕ
   pub mail : List ℕ
+  pub journal : EventList
   pub log : List ℕ
   pub after : St
-  pub store_at : ℕ → Store
-
--- an outcome that leaves the keepers as they are, after so many calls
-abbrev pub reply_with : Store → ℕ → Outcome → Reply
-reply_with store made o = record {
-  end = Some o.end;
-  status = o.status;
-  headers = o.headers;
-  body = o.body;
-  response = o.response;
-  mail = o.mail;
-  log = [];
-  after = state store made;
-  store_at = λ _. store;
-}
+  pub calls : List KeeperCall
+  pub moments : List Moment
 
 -- only the head of the response is wanted
 abbrev pub is_head : Method → Bool
@@ -45,18 +39,43 @@ is_head Get = false
 is_head Head = true
 is_head Post = false
 
-abbrev pub reply_finding : Store → List ℕ → Bool → Finding → Reply
-reply_finding store path head_only f = reply_with store f.made (outcome_found path head_only f.found)
+-- a request begins: with so much fuel, from what the keepers hold after so many calls, with this number for its mail and its log
+abbrev pub begun : ℕ → Store → ℕ → ℕ → Whole
+begun fuel store made number = record { state = new_state fuel number; store = store; made = made }
 
--- a path that isn't open is not found, without a call
-abbrev pub reply_path : List ℕ → ℕ → Store → ℕ → List ℕ → Bool → Reply
-reply_path K fuel store made path head_only =
-    if is_open path then reply_finding store path head_only (find K fuel store.files made path) else reply_with store made (not_found head_only)
+-- the first moment, those that the steps went through, and the last
+abbrev pub all_moments : Whole → Out Finish → List Moment
+all_moments at o = moment [] at ∷ (o.moments ++ moment o.calls o.whole ∷ [])
 
--- the answer to a request, with so much fuel, where the calls that K lists fail, from what the keepers hold after so many calls. Its number
--- is for its mail and its log.
+-- the reply of an outcome, in an answer of this number, whose steps did this
+abbrev pub reply_with : ℕ → Outcome → Whole → Out Finish → Reply
+reply_with number a at o = record {
+  end = Some a.end;
+  status = a.status;
+  headers = a.headers;
+  body = a.body;
+  response = a.response;
+  mail = a.mail;
+  journal = a.journal;
+  log = log_of number a.journal;
+  after = state o.whole.store o.whole.made;
+  calls = o.calls;
+  moments = all_moments at o;
+}
+
+-- what the steps did for a path, told as a reply
+abbrev pub reply_out : ℕ → List ℕ → Bool → Whole → Out Finish → Reply
+reply_out number path head_only at o = reply_with number (outcome path head_only o.end o.whole.state) at o
+
+-- the steps of a request, from its begin, where the calls that K lists fail
+unfoldable pub steps : ℕ → List ℕ → Store → ℕ → ℕ → Request → Out Finish
+steps fuel K store made number r = request_program (path_of r.target) (inputs_of r) K (begun fuel store made number)
+
+-- the answer to a request, with so much fuel, where the calls that K lists fail, from what the keepers hold after so many calls. Its number is for
+-- its mail and its log.
 unfoldable pub request : ℕ → List ℕ → Store → ℕ → ℕ → Request → Reply
-request fuel K store made number r = reply_path K fuel store made (path_of r.target) (is_head r.method)
+request fuel K store made number r =
+    reply_out number (path_of r.target) (is_head r.method) (begun fuel store made number) (steps fuel K store made number r)
 
 -- the answer to a refused stream, without a call
 abbrev pub refusal : Store → ℕ → ℕ → Reply
@@ -67,9 +86,11 @@ refusal store made status = record {
   body = refused status;
   response = refusal_text status;
   mail = [];
+  journal = [];
   log = [];
   after = state store made;
-  store_at = λ _. store;
+  calls = [];
+  moments = record { journal = []; store = store; calls = [] } ∷ [];
 }
 
 -- the answer to what a stream asks

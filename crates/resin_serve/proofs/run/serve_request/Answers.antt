@@ -11,32 +11,32 @@ use Rattle.resin_serve.proofs.run.serve_request.Goals as goal
 pub returns-in_default-clause-kept : goal.returns-in_default-clause-kept
 returns-in_default-clause-kept g c =
     let e = c.serve_one-served.ensures in
-    request_kept _ _ _ _ _ _ _ _ _ _ _ _ c.requires e.later e.blames e.counted e.told e.tables
+    request_kept _ _ _ _ _ _ _ _ _ _ _ _ c.requires e.blames e.counted e.told
 
 pub returns-in_default-clause-ran : goal.returns-in_default-clause-ran
-returns-in_default-clause-ran g c = λ place K k. ran_amid _ _ K _ _ place _ c.in_default.field-0 _ _ refl refl refl (c.in_default.ensures.served K k)
+returns-in_default-clause-ran g c = λ place K k. ran_amid _ _ _ K _ _ place _ c.in_default.field-0 _ _ refl refl refl (c.in_default.ensures.served K k)
 
 pub returns-in-NotYet-clause-kept : goal.returns-in-NotYet-clause-kept
 returns-in-NotYet-clause-kept g c =
     let e = c.serve_one-served.ensures in
-    request_kept _ _ _ _ _ _ _ _ _ _ _ _ c.requires e.later e.blames e.counted e.told e.tables
+    request_kept _ _ _ _ _ _ _ _ _ _ _ _ c.requires e.blames e.counted e.told
 
 pub returns-in-NotYet-clause-ran : goal.returns-in-NotYet-clause-ran
-returns-in-NotYet-clause-ran g c = λ place K k. ran_met _ _ K _ _ place _ c.in-Ok.outcome _ _ refl refl refl c.in-NotYet.is (c.in-Ok.ensures.served K k)
+returns-in-NotYet-clause-ran g c = λ place K k. ran_met _ _ _ K _ _ place _ c.in-Ok.outcome _ _ refl refl refl c.in-NotYet.is (c.in-Ok.ensures.served K k)
 
 pub returns : goal.returns
 returns g c =
     let s = c.serve_one-served.ensures in
-    let e = c.give_answer.ensures in
+    let e = c.give_outcome.ensures in
     record {
       same = (e.same.0 ∙ s.site, e.same.1);
       numbered = subst AreNumbered (sym e.same.2) s.numbered;
       kept = subst (λ (x : Calls). Kept (keepers c.args.run.now.calls.made c.args.run.now.calls.failed (g.F.Files.answers c.args.files.now) (g.F.Files.faults c.args.files.now) (g.T.Tables.answers c.args.tables.now) (g.T.Tables.faults c.args.tables.now))
           (keepers x.made x.failed (g.F.Files.answers c.serve_one-served.new.files) (g.F.Files.faults c.serve_one-served.new.files) (g.T.Tables.answers c.serve_one-served.new.tables) (g.T.Tables.faults c.serve_one-served.new.tables))) (sym e.same.2)
-          (request_kept _ _ _ _ _ _ _ _ _ _ _ _ c.requires s.later s.blames s.counted s.told s.tables);
-      ran = λ place K k. ran_gave _ _ _ K _ _ place _ c.in-Ok.outcome c.as_slice-mails.result.now c.as_slice.result.now _
+          (request_kept _ _ _ _ _ _ _ _ _ _ _ _ c.requires s.blames s.counted s.told);
+      ran = λ place K k. ran_gave _ _ _ _ K _ _ place _ c.in-Ok.outcome _
           (world (g.L.Sink.written c.args.log.now) (g.M.Sink.written c.args.mail.now) (g.O.Sink.written c.args.out.now) (store_of (g.F.Files.stored c.serve_one-served.new.files) (g.T.Tables.stored c.serve_one-served.new.tables)) c.serve_one-served.new.calls.made)
-          _ refl c.as_slice-mails.ensures c.as_slice.ensures (e.gave _ _ _ _)
+          _ refl (e.gave _ _ _ _)
           (c.in-Ok.ensures.served K (subst (λ (x : Calls). Later x.made x.failed K) e.same.2 k)) refl (ap (λ (x : Calls). x.made) e.same.2);
       number = e.number;
       cause = e.cause;

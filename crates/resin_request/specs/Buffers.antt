@@ -1,0 +1,42 @@
+-- Output buffers that are open when a request's file came to its end (this project, after PHP's flush at shutdown).
+use Rattle.std.specs.Prelude.{ℕ, zero, suc, ◌==◌, List, [], ◌∷◌, ◌++◌, length, Option, Some, None, if◌then◌else◌}
+use Rattle.resin_lstr.specs.Texts.{Text}
+use Rattle.resin_journal.specs.declared.channel.Channel.TheVariants.{Http}
+use Rattle.resin_machine.specs.Leaving.{close_buffer}
+use Rattle.resin_program.specs.Programs.{Prog, give, act, ◌>>=◌}
+use Rattle.resin_evaluation.specs.declared.outgoing.Outgoing.TheVariants.{Page}
+use Rattle.resin_evaluation.specs.Parts.{computed, looked}
+use Rattle.resin_evaluation.specs.Operators.{too_long}
+use Rattle.resin_evaluation.specs.Writes.{context_of, leave}
+use Rattle.resin_evaluation.specs.Programs.{evals, most_open}
+
+-- a text leaves as one write on `http`, while no evaluation is open
+abbrev pub leave_page : Text → Prog (Unit {0})
+leave_page t = leave (evals most_open) Page (context_of Http) t
+
+-- texts of which the innermost buffer's comes first, joined from the outermost to the innermost
+abbrev pub joined_outwards : List Text → Text
+joined_outwards [] = []
+joined_outwards (t ∷ ts) = joined_outwards ts ++ t
+
+-- the text of a buffer behind others, where there was a buffer
+abbrev pub with_closed : List Text → Option Text → List Text
+with_closed ts None = ts
+with_closed ts (Some t) = ts ++ t ∷ []
+
+-- closes so many buffers, and puts their texts behind these
+abbrev pub close_more : ℕ → List Text → Prog (List Text)
+close_more zero ts = give ts
+close_more (suc n) ts = act close_buffer >>= λ t. close_more n (with_closed ts t)
+
+-- the texts of closed buffers leave as one write
+abbrev pub leave_joined : List Text → Prog (Unit {0})
+leave_joined ts = computed (too_long (joined_outwards ts)) >>= leave_page
+
+-- so many buffers are open
+abbrev pub end_open : ℕ → Prog (Unit {0})
+end_open n = if n == 0 then give tt else close_more n [] >>= leave_joined
+
+-- the open buffers are closed, and what they hold leaves as one write, where any is open
+abbrev pub end_buffers : Prog (Unit {0})
+end_buffers = looked (λ m. length m.stage.buffers) >>= end_open

@@ -1,0 +1,102 @@
+//! Output buffers that are open when the file of a request came to its end.
+ghost use Rattle.std.specs.Prelude.{◌≡◌, [], IfOk};
+ghost use Rattle.resin_lstr.specs.Faults.{GivesText};
+ghost use Rattle.resin_target.specs.Reads.{GivesOrNoMemory};
+ghost use Rattle.resin_program.specs.Runs.{Does, seen, world};
+ghost use Rattle.resin_evaluation.specs.Runs.{Runs};
+ghost use Rattle.resin_evaluation.specs.Operators.{too_long};
+ghost use Rattle.resin_request.specs.Buffers.{joined_outwards, with_closed, close_more, leave_joined, end_buffers};
+
+use resin_base::{Calls, Files, Tables};
+use resin_interp::{Machine, Stop, leave_page};
+use resin_lstr::{Builder, LText, TextFault, Texts};
+use resin_scalar::CallStop;
+use resin_steps::reads::text_stop;
+use std::alloc::{AllocError, Global};
+
+// Puts the text of a buffer behind others, where there was a buffer.
+fn with_closed(mut texts: Texts, text: Option<LText>) -> Result<Texts, AllocError>
+    ensures { IfOk result (λ all. all ≡ with_closed texts text) }
+{
+    match text {
+        Some(text) => {
+            texts.push(text)?;
+            Ok(texts)
+        }
+        None => Ok(texts),
+    }
+}
+
+// Closes so many buffers; their texts, the innermost first.
+fn close_all(alloc: Global, m: &mut Machine, count: usize) -> Result<Texts, Stop>
+    ensures { Runs (close_more count []) m.old result m.new }
+{
+    let mut texts = Texts::new(alloc);
+    for _ in 0..count {
+        let text = m.close_buffer()?;
+        texts = with_closed(texts, text)?;
+    }
+    Ok(texts)
+}
+
+// Texts, of which the innermost buffer's comes first, joined from the outermost to the innermost.
+fn joined(alloc: Global, texts: &[LText]) -> Result<LText, TextFault>
+    ensures { GivesText result (joined_outwards texts.now) }
+{
+    let mut all = Builder::new(alloc);
+    for i in 0..texts.len() {
+        all = all.append(&texts[texts.len() - 1 - i])?;
+    }
+    Ok(all.finish()?)
+}
+
+// The same as the end of a call.
+fn joined_or_stop(alloc: Global, texts: &[LText]) -> Result<LText, CallStop>
+    ensures { GivesOrNoMemory result (too_long (joined_outwards texts.now)) }
+{
+    match joined(alloc, texts) {
+        Ok(text) => Ok(text),
+        Err(fault) => Err(text_stop(fault)),
+    }
+}
+
+// The texts of closed buffers leave as one write.
+fn leave_joined<F: Files, T: Tables>(
+    alloc: Global,
+    texts: &Texts,
+    m: &mut Machine,
+    files: &mut F,
+    tables: &mut T,
+    calls: &mut Calls,
+) -> Result<(), Stop>
+    ensures { Does (leave_joined texts.now)
+        (world m.old (seen (F.stored files.old) (F.faults files.old) (F.answers files.old)) (seen (T.stored tables.old) (T.faults tables.old) (T.answers tables.old)) calls.old) result
+        (world m.new (seen (F.stored files.new) (F.faults files.new) (F.answers files.new)) (seen (T.stored tables.new) (T.faults tables.new) (T.answers tables.new)) calls.new) }
+{
+    let text = m.settle(joined_or_stop(alloc, texts.as_slice()))?;
+    leave_page(alloc, text, m, files, tables, calls)
+}
+
+/// The open output buffers are closed, and what they hold leaves as one write on `http`, where any is open.
+///
+/// # Errors
+///
+/// `TextTooLong` where all their texts together pass 16,777,216 bytes, and how the write stops.
+pub(crate) fn end_buffers<F: Files, T: Tables>(
+    alloc: Global,
+    m: &mut Machine,
+    files: &mut F,
+    tables: &mut T,
+    calls: &mut Calls,
+) -> Result<(), Stop>
+    ensures { Does end_buffers
+        (world m.old (seen (F.stored files.old) (F.faults files.old) (F.answers files.old)) (seen (T.stored tables.old) (T.faults tables.old) (T.answers tables.old)) calls.old) result
+        (world m.new (seen (F.stored files.new) (F.faults files.new) (F.answers files.new)) (seen (T.stored tables.new) (T.faults tables.new) (T.answers tables.new)) calls.new) }
+{
+    let count = m.stage().open_buffers();
+    if count == 0 {
+        return Ok(());
+    }
+    let texts = close_all(alloc, m, count)?;
+    leave_joined(alloc, &texts, m, files, tables, calls)
+}

@@ -1,0 +1,11 @@
+//! One request of a site as a program: its file is read, `boot.php` runs, the inputs are set, the file runs or goes out, and open buffers
+//! go out.
+#![tactic(auto)]
+
+mod buffers;
+mod paths;
+mod request;
+mod source;
+
+pub use paths::{BOOT_PATH, PLAIN_KIND, is_open, is_script, kind_of, path_of};
+pub use request::{Finish, run_request};

@@ -1,0 +1,123 @@
+//! Source texts: what is read of them, and runs.
+ghost use Rattle.std.specs.Prelude.{◌≡◌, ◌≤◌, IfOk, IsTrue, length};
+ghost use Rattle.resin_lex.specs.Lines.{line_of};
+ghost use Rattle.resin_lstr.specs.Texts.{LONGEST};
+ghost use Rattle.resin_parse.specs.Parsed.{parsed};
+ghost use Rattle.resin_program.specs.Runs.{Does, World, seen, world};
+ghost use Rattle.resin_evaluation.specs.Runs.{Runs};
+ghost use Rattle.resin_request.specs.Sources.{read_as, run_built, run_source, has_shadow, is_short, thaw};
+
+use resin_base::{Calls, Entry, Files, Tables};
+use resin_built::is_built;
+use resin_interp::{Machine, Stop, run_program};
+use resin_lex::{ParseFault, line_of};
+use resin_parse::program;
+use resin_scalar::ScriptFault;
+use resin_tree::Program;
+use std::alloc::Global;
+
+const MOST_TEXT: usize = 16_777_216;
+
+// The line of a place of a text, from 1; behind the text that of its end.
+fn line_at(src: &[u8], place: u32) -> u32
+    requires { length src.now ≤ LONGEST }
+    ensures { result ≡ line_of src.now place }
+{
+    if place as usize <= src.len() {
+        line_of(src, place)
+    } else {
+        line_of(src, src.len() as u32)
+    }
+}
+
+// The program of a text.
+fn read_source(alloc: Global, src: &[u8]) -> Result<Program, Stop>
+    requires { length src.now ≤ LONGEST }
+    ensures { (w : World) → Does (read_as src.now (parsed src.now)) w result w }
+{
+    match program(alloc, src) {
+        Ok(p) => Ok(p),
+        Err(ParseFault::Syntax { offset }) => {
+            Err(Stop::Fault(ScriptFault::Syntax, line_at(src, offset)))
+        }
+        Err(ParseFault::TooDeep { offset }) => {
+            Err(Stop::Fault(ScriptFault::TooDeep, line_at(src, offset)))
+        }
+        Err(ParseFault::Memory) => Err(Stop::Memory),
+    }
+}
+
+// Runs a program where all of it is built; whether it is.
+fn run_built<F: Files, T: Tables>(
+    alloc: Global,
+    p: &Program,
+    m: &mut Machine,
+    files: &mut F,
+    tables: &mut T,
+    calls: &mut Calls,
+) -> Result<bool, Stop>
+    ensures { Does (run_built p.now)
+        (world m.old (seen (F.stored files.old) (F.faults files.old) (F.answers files.old)) (seen (T.stored tables.old) (T.faults tables.old) (T.answers tables.old)) calls.old) result
+        (world m.new (seen (F.stored files.new) (F.faults files.new) (F.answers files.new)) (seen (T.stored tables.new) (T.faults tables.new) (T.answers tables.new)) calls.new) }
+{
+    if !is_built(p) {
+        return Ok(false);
+    }
+    let _flow = run_program(alloc, m, p, files, tables, calls)?;
+    Ok(true)
+}
+
+/// Runs a source text to its end, its top-level `return` or an `exit`, where all of it is built; whether it is.
+///
+/// # Errors
+///
+/// The faults `Syntax` and `TooDeep` with the line of the place where the text stops being the front of a program, and how the program
+/// stops. After `Memory` the state, the keepers and the calls are as after some of its steps.
+pub(crate) fn run_source<F: Files, T: Tables>(
+    alloc: Global,
+    src: &[u8],
+    m: &mut Machine,
+    files: &mut F,
+    tables: &mut T,
+    calls: &mut Calls,
+) -> Result<bool, Stop>
+    requires { length src.now ≤ LONGEST }
+    ensures { Does (run_source src.now)
+        (world m.old (seen (F.stored files.old) (F.faults files.old) (F.answers files.old)) (seen (T.stored tables.old) (T.faults tables.old) (T.answers tables.old)) calls.old) result
+        (world m.new (seen (F.stored files.new) (F.faults files.new) (F.answers files.new)) (seen (T.stored tables.new) (T.faults tables.new) (T.answers tables.new)) calls.new) }
+{
+    let p = read_source(alloc, src)?;
+    run_built(alloc, &p, m, files, tables, calls)
+}
+
+// Whether labels were stored with an entry.
+fn has_shadow(e: &Entry) -> bool
+    ensures { result ≡ has_shadow e.now }
+{
+    e.shadow.as_slice().len() > 0
+}
+
+// Whether an entry has no more bytes than a text may have.
+fn is_short(e: &Entry) -> bool
+    ensures { result ≡ is_short e.now }
+{
+    e.bytes.as_slice().len() <= MOST_TEXT
+}
+
+/// Whether the bytes of an entry can be taken as a text: labels that were stored with them aren't built.
+///
+/// # Errors
+///
+/// `TextTooLong` where there are no such labels, and more than 16,777,216 bytes.
+pub(crate) fn thaw(m: &Machine, e: &Entry) -> Result<bool, Stop>
+    ensures does { Runs (thaw e.now) m.now result m.now }
+    ensures short { IfOk result (λ built. IsTrue built → length e.now.bytes ≤ LONGEST) }
+{
+    if has_shadow(e) {
+        return Ok(false);
+    }
+    if !is_short(e) {
+        return Err(m.fault(ScriptFault::TextTooLong));
+    }
+    Ok(true)
+}

@@ -1,0 +1,34 @@
+-- Outcomes obey the access law.
+use Rattle.std.proofs.Common.{◌≡◌, ℕ, ◌<◌, Bool, true, List, [], ◌++◌, refl, ap, sym, subst, inl, inr, ◌⊎◌}
+use Rattle.std.specs.Prelude.{decimal}
+use Rattle.resin_journal.specs.Access.{ObeysAccessLaw}
+use Rattle.resin_stage.specs.Stages.{Stage}
+use Rattle.resin_stage.specs.Ties.{IsTied, sent_lines, IsOneOf}
+use Rattle.resin_stage.specs.Writes as writes
+use Rattle.resin_site.specs.declared.outcome.End.{End}
+use Rattle.resin_site.specs.declared.outcome.End.TheVariants.{Served}
+use Rattle.resin_site.specs.Laws.{IsLawful}
+use Rattle.resin_site.specs.Outcomes.{status_of, fixed_text, with_parts, unbuilt}
+
+-- what a tied stage of a lawful journal gives
+pub lawful_parts : (request : ℕ) (path : List ℕ) (head_only : Bool) (end : End) (s : Stage) → writes.IsLawful s.journal s.writes → IsTied request s
+    → IsLawful request (with_parts path head_only end s)
+lawful_parts request path head_only end s law tied = record {
+  writes = law.law;
+  body = ap (λ b. b ++ fixed_text end) tied.body;
+  mail = tied.mail;
+  headers = tied.headers;
+  status = λ e. subst (λ x. (status_of x s.status ≡ 200) ⊎ ((status_of x s.status ≡ 302) ⊎ IsOneOf (decimal (status_of x s.status)) (sent_lines s.journal))) (sym e) tied.status;
+}
+
+nothing : ObeysAccessLaw []
+nothing = record { placed = refl; checked = λ w p. refl; in_order = refl }
+
+pub lawful_unbuilt : (request : ℕ) → IsLawful request unbuilt
+lawful_unbuilt request = record {
+  writes = nothing;
+  body = Rattle.std.proofs.Common.refl;
+  mail = Rattle.std.proofs.Common.refl;
+  headers = tt;
+  status = λ e. cc;
+}
