@@ -4,7 +4,7 @@
 //! A line `call NAME|ARGUMENT|..` calls a function by its name, with texts and without a script, and prints what it gives.
 //!
 //! The input, and the output, which was worked out by PHP 8.2 and by hand from the PHP manual and this project's profile, are the table of the tests of scripts.
-//! The rows under "Cost" add hundreds of thousands of entries to one array: where each turn copied what is there, they would take about 10,000,000,000 steps, and
+//! The rows under "Cost" add 100,000 or 300,000 entries to one array: where each turn copied what is there, they would take 5,000,000,000 to 45,000,000,000 steps, and
 //! the program would not end in the time that it has.
 #![tactic(auto)]
 
@@ -145,15 +145,20 @@ struct Fuel {
     is_asked: bool,
 }
 
-fn run_parsed(alloc: Global, fuel: &Fuel, p: &Program) -> Result<String, AllocError> {
-    let mut m = Machine::new(alloc, fuel.ticks, 1)?;
+/// Runs a program over keepers that hold nothing.
+fn ended(alloc: Global, m: &mut Machine, p: &Program) -> Result<Flow, Stop> {
     let mut files = CalmFiles::new(alloc);
     let mut tables = CalmTables::new(alloc);
     let mut calls = Calls {
         made: 0,
         failed: FailList::new(alloc),
     };
-    let end = run_program(alloc, &mut m, p, &mut files, &mut tables, &mut calls);
+    run_program(alloc, m, p, &mut files, &mut tables, &mut calls)
+}
+
+fn run_parsed(alloc: Global, fuel: &Fuel, p: &Program) -> Result<String, AllocError> {
+    let mut m = Machine::new(alloc, fuel.ticks, 1)?;
+    let end = ended(alloc, &mut m, p);
     let mut out = shown_end(alloc, &m, &end)?;
     if fuel.is_asked {
         let spent = u64::from(fuel.ticks).saturating_sub(m.ticks());
@@ -189,6 +194,17 @@ fn texts(alloc: Global, pieces: &str) -> Result<Values, AllocError> {
     Ok(values)
 }
 
+/// Calls a function by its name, over keepers that hold nothing.
+fn answered(alloc: Global, m: &mut Machine, name: &str, args: &Values) -> Result<Value, Stop> {
+    let mut files = CalmFiles::new(alloc);
+    let mut tables = CalmTables::new(alloc);
+    let mut calls = Calls {
+        made: 0,
+        failed: FailList::new(alloc),
+    };
+    call_function(alloc, m, name.as_bytes(), args, &mut files, &mut tables, &mut calls)
+}
+
 /// Calls the function whose name stands before the first `|`, with the texts behind it.
 fn called(alloc: Global, line: &str) -> Result<String, AllocError> {
     let (name, args) = match line.split_once('|') {
@@ -196,13 +212,7 @@ fn called(alloc: Global, line: &str) -> Result<String, AllocError> {
         None => (line, Values::new(alloc)),
     };
     let mut m = Machine::new(alloc, 100_000, 1)?;
-    let mut files = CalmFiles::new(alloc);
-    let mut tables = CalmTables::new(alloc);
-    let mut calls = Calls {
-        made: 0,
-        failed: FailList::new(alloc),
-    };
-    let end = call_function(alloc, &mut m, name.as_bytes(), &args, &mut files, &mut tables, &mut calls);
+    let end = answered(alloc, &mut m, name, &args);
     let mut out = match &end {
         Ok(v) => shown_value(alloc, &m, v)?,
         Err(stop) => shown_stop(alloc, &m, stop)?,
