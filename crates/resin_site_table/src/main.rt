@@ -165,21 +165,20 @@ fn answers(
     let mut files = FakeFiles::new(alloc, failing);
     let mut number = 1_u64;
     let mut out = String::new(alloc);
-    let mut rest = line;
-    while !rest.is_empty() {
-        let (field, behind) = cut(rest);
-        if is_request(field) {
+    let mut name: Option<&str> = None;
+    for field in line.split('|') {
+        if let Some(at) = name {
+            put_file(&mut files, at, field)?;
+            name = None;
+        } else if is_request(field) {
             if number > 1 {
                 out.push('\n')?;
             }
             let text = answer(alloc, &mut site, number, field, &mut files)?;
             out.push_str(text.as_str())?;
             number = number.saturating_add(1);
-            rest = behind;
         } else {
-            let (bytes, after) = cut(behind);
-            put_file(&mut files, field, bytes)?;
-            rest = after;
+            name = Some(field);
         }
     }
     Ok(out)
