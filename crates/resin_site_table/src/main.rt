@@ -151,12 +151,7 @@ fn put_file(files: &mut FakeFiles, field: &str, bytes: &str) -> Result<(), Alloc
 }
 
 /// Takes the fields of a site one after the other, and answers its requests.
-fn answers(
-    alloc: Global,
-    fuel: u32,
-    fail: Option<u32>,
-    line: &str,
-) -> Result<String, AllocError> {
+fn answers(alloc: Global, fuel: u32, fail: Option<u32>, line: &str) -> Result<String, AllocError> {
     let mut site = Site::new(alloc, fuel)?;
     let mut failing = FailList::new(alloc);
     if let Some(call) = fail {
