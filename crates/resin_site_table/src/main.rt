@@ -1,0 +1,211 @@
+//! Serves requests to small sites, one site a line. Fields stand between `|`, and `\n` and `\r` stand for those bytes. `fuel N` at the front gives each request N ticks, instead
+//! of 100,000, and `fail N` lets the files' Nth call fail. Then come the files, each a field with its name, and behind a blank its shadow text where it has
+//! one, and a field with its bytes; and requests, each a field with the method and the target, and behind a newline further lines of the head, the
+//! empty one, and the body. A request is served when it is met, so that files behind it aren't there yet.
+//!
+//! A line is printed for each request: how it ended, its status, its keeper calls, the bytes of its response and the response, the denials, and the mail,
+//! where there are any; only `not yet` where the request met what isn't built. A line that begins with `# ` is a heading and is printed as it is.
+//!
+//! The input, and the output, which was worked out by hand from the formats of requests and responses, are the table of the tests of a site.
+#![tactic(auto)]
+
+use resin_base::{Calls, CalmTables, FailList, FakeFiles};
+use resin_http::{Step, next_request};
+use resin_site::{End, Outcome, Site, log_text, serve_one};
+use std::alloc::{AllocError, Global};
+use std::io;
+
+/// The text that a line stands for.
+fn unescaped(alloc: Global, line: &str) -> Result<String, AllocError> {
+    let mut out = String::new(alloc);
+    let mut escaped = false;
+    for c in line.chars() {
+        if escaped {
+            match c {
+                'n' => out.push('\n')?,
+                'r' => out.push('\r')?,
+                _ => {
+                    out.push('\\')?;
+                    out.push(c)?;
+                }
+            }
+            escaped = false;
+        } else if c == '\\' {
+            escaped = true;
+        } else {
+            out.push(c)?;
+        }
+    }
+    Ok(out)
+}
+
+/// Adds bytes as one line shows them.
+fn push_shown(alloc: Global, out: &mut String, bytes: &[u8]) -> Result<(), AllocError> {
+    let text = String::from_utf8_lossy(alloc, bytes)?;
+    for c in text.as_str().chars() {
+        match c {
+            '\n' => out.push_str("\\n")?,
+            '\r' => out.push_str("\\r")?,
+            _ => out.push(c)?,
+        }
+    }
+    Ok(())
+}
+
+/// Adds bytes behind a mark, where there are any.
+fn push_part(alloc: Global, out: &mut String, bytes: &[u8]) -> Result<(), AllocError> {
+    if !bytes.is_empty() {
+        out.push_str(" | ")?;
+        push_shown(alloc, out, bytes)?;
+    }
+    Ok(())
+}
+
+fn shown_end(end: &End) -> &'static str {
+    match end {
+        End::Served => "served",
+        End::NotFound => "not found",
+        End::Uncaught(_) => "uncaught",
+        End::Fault(_, _) => "fault",
+        End::Keeper => "keeper",
+        End::NotYet => "not yet",
+    }
+}
+
+fn shown(alloc: Global, number: u64, o: &Outcome, calls: &Calls) -> Result<String, AllocError> {
+    let end = shown_end(&o.end);
+    if let End::NotYet = o.end {
+        return String::from_str(alloc, end);
+    }
+    let status = o.status;
+    let made = calls.made;
+    let count = o.response.as_slice().len();
+    let mut out = format!(in alloc; "{end} | {status} | {made} calls | {count} bytes")?;
+    push_part(alloc, &mut out, o.response.as_slice())?;
+    let log = log_text(alloc, number, &o.journal)?;
+    push_part(alloc, &mut out, log.as_slice())?;
+    push_part(alloc, &mut out, o.mail.as_slice())?;
+    Ok(out)
+}
+
+/// The bytes of a request: its method and target, and what stands behind the first newline.
+fn request_text(alloc: Global, field: &str) -> Result<String, AllocError> {
+    let (line, rest) = match field.split_once('\n') {
+        Some(parts) => parts,
+        None => (field, "\r\n"),
+    };
+    format!(in alloc; "{line} HTTP/1.1\r\nHost: x\r\n{rest}")
+}
+
+/// Serves the request of a field.
+fn answer(
+    alloc: Global,
+    site: &mut Site,
+    number: u64,
+    field: &str,
+    files: &mut FakeFiles,
+) -> Result<String, AllocError> {
+    let text = request_text(alloc, field)?;
+    let mut tables = CalmTables::new(alloc);
+    let mut calls = Calls {
+        made: 0,
+        failed: FailList::new(alloc),
+    };
+    match next_request(alloc, text.as_bytes())? {
+        Step::Got { request, .. } => {
+            let outcome = serve_one(
+                alloc,
+                site,
+                &request,
+                number,
+                files,
+                &mut tables,
+                &mut calls,
+            )?;
+            shown(alloc, number, &outcome, &calls)
+        }
+        Step::Refuse { status } => format!(in alloc; "refused {status}"),
+        Step::Need => String::from_str(alloc, "no whole request"),
+    }
+}
+
+fn is_request(field: &str) -> bool {
+    field.starts_with("GET /") || field.starts_with("HEAD /") || field.starts_with("POST /")
+}
+
+/// What stands before the first `|`, and what stands behind it.
+fn cut(text: &str) -> (&str, &str) {
+    match text.split_once('|') {
+        Some(parts) => parts,
+        None => (text, ""),
+    }
+}
+
+/// Puts a file, whose field may hold a shadow text behind its name.
+fn put_file(files: &mut FakeFiles, field: &str, bytes: &str) -> Result<(), AllocError> {
+    let (name, shadow) = match field.split_once(' ') {
+        Some(parts) => parts,
+        None => (field, ""),
+    };
+    files.put(name.as_bytes(), bytes.as_bytes(), shadow.as_bytes())
+}
+
+/// Takes the fields of a site one after the other, and answers its requests.
+fn answers(alloc: Global, fuel: u32, fail: Option<u32>, line: &str) -> Result<String, AllocError> {
+    let mut site = Site::new(alloc, fuel)?;
+    let mut failing = FailList::new(alloc);
+    if let Some(call) = fail {
+        failing.push(u64::from(call))?;
+    }
+    let mut files = FakeFiles::new(alloc, failing);
+    let mut number = 1_u64;
+    let mut out = String::new(alloc);
+    let mut name: Option<&str> = None;
+    for field in line.split('|') {
+        if let Some(at) = name {
+            put_file(&mut files, at, field)?;
+            name = None;
+        } else if is_request(field) {
+            if number > 1 {
+                out.push('\n')?;
+            }
+            let text = answer(alloc, &mut site, number, field, &mut files)?;
+            out.push_str(text.as_str())?;
+            number = number.saturating_add(1);
+        } else {
+            name = Some(field);
+        }
+    }
+    Ok(out)
+}
+
+/// The number behind a word at the front of a line, and the rest of the line.
+fn option<'a>(word: &str, line: &'a str) -> (Option<u32>, &'a str) {
+    let (front, rest) = cut(line);
+    match front.strip_prefix(word) {
+        Some(digits) => match digits.parse::<u32>() {
+            Ok(number) => (Some(number), rest),
+            Err(_) => (None, line),
+        },
+        None => (None, line),
+    }
+}
+
+fn run(alloc: Global, line: &str) -> Result<String, AllocError> {
+    if line.starts_with("# ") {
+        return String::from_str(alloc, line);
+    }
+    let text = unescaped(alloc, line)?;
+    let (fuel, rest) = option("fuel ", text.as_str());
+    let (fail, rest) = option("fail ", rest);
+    answers(alloc, fuel.unwrap_or(100_000), fail, rest)
+}
+
+fn main(rt: HostRuntime) -> io::Result<()> {
+    for line in rt.lines(rt.alloc()) {
+        let line = line?;
+        let text = run(rt.alloc(), line.as_str())?;
+        rt.println(text)?;
+    }
+    Ok(())
+}
