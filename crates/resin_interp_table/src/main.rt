@@ -202,7 +202,15 @@ fn answered(alloc: Global, m: &mut Machine, name: &str, args: &Values) -> Result
         made: 0,
         failed: FailList::new(alloc),
     };
-    call_function(alloc, m, name.as_bytes(), args, &mut files, &mut tables, &mut calls)
+    call_function(
+        alloc,
+        m,
+        name.as_bytes(),
+        args,
+        &mut files,
+        &mut tables,
+        &mut calls,
+    )
 }
 
 /// Calls the function whose name stands before the first `|`, with the texts behind it.
@@ -225,7 +233,13 @@ fn called(alloc: Global, line: &str) -> Result<String, AllocError> {
 fn fuel_of(line: &str) -> (Fuel, &str) {
     if let Some((front, rest)) = line.split_once('|') {
         if let Ok(ticks) = front.parse::<u32>() {
-            return (Fuel { ticks, is_asked: true }, rest);
+            return (
+                Fuel {
+                    ticks,
+                    is_asked: true,
+                },
+                rest,
+            );
         }
     }
     (
