@@ -1,4 +1,5 @@
 pub mod Runs
+pub mod Lawful_runs
 pub mod Giving
 pub mod Causing
 pub mod Keeping

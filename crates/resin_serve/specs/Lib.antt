@@ -10,5 +10,6 @@ pub mod Words
 pub mod Headline
 pub mod Codes
 pub mod Asked
+pub mod Lawful_answers
 pub mod Cutting
 pub mod Waiting_streams
