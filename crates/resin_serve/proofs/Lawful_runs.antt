@@ -12,8 +12,13 @@ use Rattle.resin_journal.specs.Lines.{log_of}
 use Rattle.resin_serve.specs.Gives.{GaveAll, Lost, three}
 use Rattle.resin_serve.specs.Ran.{World, Gained}
 use Rattle.resin_serve.specs.Records.{record_text}
+use Rattle.resin_trace.specs.Seen.{Seen}
+use Rattle.resin_serve.specs.declared.status.Status.{Status}
+use Rattle.resin_serve.specs.declared.status.Status.TheVariants.{Usage, BadTrace, ReadFault, WriteFault, TraceTooLong}
+use Rattle.resin_serve.specs.declared.status.Status.TheVariants.{Ok as StatusOk, Memory as StatusMemory, NotYet as StatusNotYet}
+use Rattle.resin_serve.specs.Whole_run.{Finished, given_of_status}
 use Rattle.resin_serve.specs.Top.{OnWhole}
-use Rattle.resin_serve.specs.Lawful_answers.{Answer, refused, served, Reply, text_of, texts_of, Obeys, AllObey, IsLost, LeftLawfully}
+use Rattle.resin_serve.specs.Lawful_answers.{Answer, refused, served, Reply, text_of, texts_of, Obeys, AllObey, IsLost, LeftLawfully, AllLeftLawfully}
 use Rattle.resin_serve.proofs.Runs.{grew_none, gained_same, gained_trans}
 
 texts_append : (n m : ℕ) (xs ys : List Reply) → m ≡ n + length xs → texts_of n (xs ++ ys) ≡ texts_of n xs ++ texts_of m ys
@@ -83,3 +88,17 @@ pub refused_left : (g : Given) (n next conn status : ℕ) (response : List ℕ) 
 refused_left g n next conn status response old new is h e =
     one_left g n next conn (refused status) old new tt (subst (λ x. GaveAll g (three [] [] (record_text conn x)) old new) is h) e
 
+-- a run begins with the number 1
+pub lawful_begin : (n : ℕ) (w : World) → n ≡ 1 → LeftLawfully Whole 1 n w w
+lawful_begin n w e = subst (λ k. LeftLawfully Whole 1 k w w) (sym e) (lawful_none 1 w w refl refl refl)
+
+-- the trace ends, and with it the run
+pub lawful_end : (status : Status) (s : Seen) (next : ℕ) (old new : World) → Finished s status → LeftLawfully Whole 1 next old new → AllLeftLawfully (given_of_status status) old new
+lawful_end StatusOk s next old new f h = (next, h)
+lawful_end Usage s next old new f h = (next, h)
+lawful_end (BadTrace offset) s next old new f h = (next, h)
+lawful_end ReadFault s next old new f h = (next, h)
+lawful_end WriteFault s next old new f h = absurd f
+lawful_end TraceTooLong s next old new f h = (next, h)
+lawful_end StatusMemory s next old new f h = absurd f
+lawful_end StatusNotYet s next old new f h = absurd f
