@@ -1,10 +1,11 @@
 -- Lawful answers follow one another.
-use Rattle.std.proofs.Common.{◌≡◌, ◌≢◌, ℕ, ◌+◌, List, [], ◌∷◌, ◌++◌, length, Option, refl, sym, ap, ◌∙◌, arith, append_assoc, length-append, subst}
+use Rattle.std.proofs.Common.{◌≡◌, ◌≢◌, ℕ, ◌+◌, List, [], ◌∷◌, ◌++◌, length, Option, refl, sym, ap, ◌∙◌, arith, append_assoc, length-append, subst, ◌⊎◌, inl, inr}
 use Rattle.std.specs.Prelude.{⊤}
 use Rattle.std.proofs.lemmas.List.{append-nil}
 use Rattle.resin_serve.specs.declared.give.Given.{Given}
 use Rattle.resin_serve.specs.declared.give.Given.TheVariants.{Whole, Fault, Memory, NotYet}
-use Rattle.resin_site.specs.declared.outcome.End.TheVariants.{NotYet as Unbuilt}
+use Rattle.resin_site.specs.declared.outcome.End.{End}
+use Rattle.resin_site.specs.declared.outcome.End.TheVariants.{Served, NotFound, Keeper, NotYet as Unbuilt}
 use Rattle.resin_site.specs.declared.outcome.Outcome.{Outcome}
 use Rattle.resin_site.specs.Laws.{IsLawful}
 use Rattle.resin_site.specs.Outcomes.{refusal_text}
@@ -102,3 +103,11 @@ lawful_end WriteFault s next old new f h = absurd f
 lawful_end TraceTooLong s next old new f h = (next, h)
 lawful_end StatusMemory s next old new f h = absurd f
 lawful_end StatusNotYet s next old new f h = absurd f
+
+-- an end that is another one isn't that of what isn't built
+pub built : {Class Fault : Type 0} (e : End) → (e ≡ Served) ⊎ ((e ≡ NotFound) ⊎ (Class ⊎ (Fault ⊎ (e ≡ Keeper)))) → (Class → e ≢ Unbuilt) → (Fault → e ≢ Unbuilt) → e ≢ Unbuilt
+built e (inl i) c f n = cc
+built e (inr (inl i)) c f n = cc
+built e (inr (inr (inl i))) c f n = c i n
+built e (inr (inr (inr (inl i)))) c f n = f i n
+built e (inr (inr (inr (inr i)))) c f n = cc

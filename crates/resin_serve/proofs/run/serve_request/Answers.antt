@@ -6,7 +6,7 @@ use Rattle.resin_serve.specs.Kept.{Kept, keepers}
 use Rattle.resin_base.specs.Numbering.{AreNumbered}
 use Rattle.resin_serve.proofs.Runs.{ran_amid, ran_met, ran_gave}
 use Rattle.resin_serve.proofs.Request_kept.{request_kept}
-use Rattle.resin_serve.proofs.Lawful_runs.{lawful_stop, lawful_unbuilt, served_left}
+use Rattle.resin_serve.proofs.Lawful_runs.{lawful_stop, lawful_unbuilt, served_left, built}
 use Rattle.resin_serve.proofs.run.serve_request.Goals as goal
 
 pub returns-in_default-clause-kept : goal.returns-in_default-clause-kept
@@ -45,7 +45,7 @@ returns g c =
           (world (g.L.Sink.written c.args.log.now) (g.M.Sink.written c.args.mail.now) (g.O.Sink.written c.args.out.now) (store_of (g.F.Files.stored c.serve_one-served.new.files) (g.T.Tables.stored c.serve_one-served.new.tables)) c.serve_one-served.new.calls.made)
           _ refl (e.gave _ _ _ _)
           (c.in-Ok.ensures.served K (subst (λ (x : Calls). Later x.made x.failed K) e.same.2 k)) refl (ap (λ (x : Calls). x.made) e.same.2);
-      lawful = served_left _ _ _ _ c.in-Ok.outcome _ _ (λ e. c.in-Served.bogus) c.in-Ok.ensures.lawful (e.gave None 0 None 0) e.number;
+      lawful = served_left _ _ _ _ c.in-Ok.outcome _ _ (built _ c.in-Served.is (λ i n. let j = i.1 in cc) (λ i n. let j = i.1 in cc)) c.in-Ok.ensures.lawful (e.gave None 0 None 0) e.number;
       number = e.number;
       cause = e.cause;
     }
