@@ -1,5 +1,4 @@
 pub mod Runs
-pub mod Lawful_runs
 pub mod Giving
 pub mod Causing
 pub mod Keeping

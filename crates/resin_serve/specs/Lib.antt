@@ -10,6 +10,5 @@ pub mod Words
 pub mod Headline
 pub mod Codes
 pub mod Asked
-pub mod Lawful_answers
 pub mod Cutting
 pub mod Waiting_streams

@@ -6,7 +6,6 @@ ghost use Rattle.resin_trace.specs.Lines.{at};
 ghost use Rattle.resin_serve.specs.Ran.{Ran, world};
 ghost use Rattle.resin_serve.specs.Gives.{CausedIn, GaveAll, counts, sinks, three};
 ghost use Rattle.resin_serve.specs.Kept.{Kept, keepers};
-ghost use Rattle.resin_serve.specs.Lawful_answers.{LeftLawfully, told_of};
 ghost use Rattle.resin_site.specs.Keeping.{Store, Later, store_of};
 ghost use Rattle.resin_base.specs.Numbering.{AreNumbered};
 ghost use Rattle.resin_journal.specs.Lines.{log_of};
@@ -121,8 +120,6 @@ pub(crate) fn serve_request<F: Files, T: Tables, L: Sink, M: Sink, O: Sink>(
     ensures cause { CausedIn result
         (sinks (counts (L.faults log.old) (L.stalls log.old)) (counts (M.faults mail.old) (M.stalls mail.old)) (counts (O.faults out.old) (O.stalls out.old)))
         (sinks (counts (L.faults log.new) (L.stalls log.new)) (counts (M.faults mail.new) (M.stalls mail.new)) (counts (O.faults out.new) (O.stalls out.new))) }
-    ensures lawful { LeftLawfully result run.old.number run.new.number
-        (told_of (L.written log.old) (M.written mail.old) (O.written out.old)) (told_of (L.written log.new) (M.written mail.new) (O.written out.new)) }
 {
     let served = serve_one(
         run.alloc,
@@ -162,8 +159,6 @@ pub(crate) fn serve_refusal<L: Sink, M: Sink, O: Sink>(
     ensures cause { CausedIn result
         (sinks (counts (L.faults log.old) (L.stalls log.old)) (counts (M.faults mail.old) (M.stalls mail.old)) (counts (O.faults out.old) (O.stalls out.old)))
         (sinks (counts (L.faults log.new) (L.stalls log.new)) (counts (M.faults mail.new) (M.stalls mail.new)) (counts (O.faults out.new) (O.stalls out.new))) }
-    ensures lawful { LeftLawfully result run.old.number run.new.number
-        (told_of (L.written log.old) (M.written mail.old) (O.written out.old)) (told_of (L.written log.new) (M.written mail.new) (O.written out.new)) }
 {
     let Ok(response) = refusal(run.alloc, status) else {
         return Given::Memory;
@@ -196,8 +191,6 @@ pub(crate) fn serve_connection<F: Files, T: Tables, L: Sink, M: Sink, O: Sink>(
         (sinks (counts (L.faults log.old) (L.stalls log.old)) (counts (M.faults mail.old) (M.stalls mail.old)) (counts (O.faults out.old) (O.stalls out.old)))
         (sinks (counts (L.faults log.new) (L.stalls log.new)) (counts (M.faults mail.new) (M.stalls mail.new)) (counts (O.faults out.new) (O.stalls out.new))) }
     ensures line { OnWhole result (RanLine (at run.old.connections conn) (at run.new.connections conn) run.old.number run.new.number) }
-    ensures lawful { LeftLawfully result run.old.number run.new.number
-        (told_of (L.written log.old) (M.written mail.old) (O.written out.old)) (told_of (L.written log.new) (M.written mail.new) (O.written out.new)) }
 {
     'answers: loop {
         match run.connections.next_request(run.alloc, conn) {
@@ -240,8 +233,6 @@ pub(crate) fn serve_event<F: Files, T: Tables, L: Sink, M: Sink, O: Sink>(
         → RanEvent result (meaning run.old.site) seen (event.now, place) run.old.number run.new.number run.new.calls.made run.new.calls.failed run.new.connections
         (world (L.written log.old) (M.written mail.old) (O.written out.old) (store_of (F.stored files.old) (T.stored tables.old)) run.old.calls.made)
         (world (L.written log.new) (M.written mail.new) (O.written out.new) (store_of (F.stored files.new) (T.stored tables.new)) run.new.calls.made) }
-    ensures lawful { LeftLawfully result run.old.number run.new.number
-        (told_of (L.written log.old) (M.written mail.old) (O.written out.old)) (told_of (L.written log.new) (M.written mail.new) (O.written out.new)) }
 {
     match event {
         TraceEvent::Piece { conn, bytes } => {
@@ -296,8 +287,6 @@ pub(crate) fn serve_ready<F: Files, T: Tables, L: Sink, M: Sink, O: Sink>(
         → Went result (meaning run.old.site) b seen reader.old reader.new run.old.number run.new.number run.new.calls.made run.new.calls.failed run.new.connections
         (world (L.written log.old) (M.written mail.old) (O.written out.old) (store_of (F.stored files.old) (T.stored tables.old)) run.old.calls.made)
         (world (L.written log.new) (M.written mail.new) (O.written out.new) (store_of (F.stored files.new) (T.stored tables.new)) run.new.calls.made) }
-    ensures lawful { LeftLawfully (given_of result) run.old.number run.new.number
-        (told_of (L.written log.old) (M.written mail.old) (O.written out.old)) (told_of (L.written log.new) (M.written mail.new) (O.written out.new)) }
 {
     'records: loop {
         match reader.next() {

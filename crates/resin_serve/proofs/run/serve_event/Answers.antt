@@ -1,7 +1,5 @@
-use Rattle.std.proofs.Common.{refl}
 use Rattle.resin_serve.proofs.Event_runs.{at_piece, event_stop, at_end}
 use Rattle.resin_serve.proofs.Keeping.{kept_none}
-use Rattle.resin_serve.proofs.Lawful_runs.{lawful_none, lawful_stop}
 use Rattle.resin_serve.proofs.run.serve_event.Goals as goal
 
 pub returns-in-Ok-clause-ran : goal.returns-in-Ok-clause-ran
@@ -19,9 +17,3 @@ returns-in-End-clause-kept g c = kept_none _
 
 pub returns-in-End-clause-ran : goal.returns-in-End-clause-ran
 returns-in-End-clause-ran g c = λ place seen h. at_end _ seen _ _ place _ _ _ _ _ _ h c.in-End.is c.end.ensures.here c.end.ensures.others
-
-pub returns-in-Err-clause-lawful : goal.returns-in-Err-clause-lawful
-returns-in-Err-clause-lawful g c = lawful_stop _ _ _ _ refl refl refl
-
-pub returns-in-End-clause-lawful : goal.returns-in-End-clause-lawful
-returns-in-End-clause-lawful g c = lawful_none _ _ _ refl refl refl

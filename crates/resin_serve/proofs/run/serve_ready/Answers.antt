@@ -5,11 +5,10 @@ use Rattle.resin_serve.specs.Asked.{meaning}
 use Rattle.resin_serve.proofs.Ready_runs.{begin_on, goes_on, stops_at}
 use Rattle.resin_serve.proofs.Keeping.{kept_none, kept_then, passes}
 use Rattle.resin_serve.proofs.Causing.{caused_then}
-use Rattle.resin_serve.proofs.Lawful_runs.{lawful_none, lawful_stop, lawful_then}
 use Rattle.resin_serve.proofs.run.serve_ready.Goals as goal
 
 pub records-init : goal.records-init
-records-init g c = record { site = refl; numbered = c.requires; kept = kept_none _; cause = refl; lawful = lawful_none _ _ _ refl refl refl; so_far = λ seen b h f. begin_on _ b seen _ _ _ _ _ _ h f }
+records-init g c = record { site = refl; numbered = c.requires; kept = kept_none _; cause = refl; so_far = λ seen b h f. begin_on _ b seen _ _ _ _ _ _ h f }
 
 pub returns-in-Fault-clause-went : goal.returns-in-Fault-clause-went
 returns-in-Fault-clause-went g c = λ seen b hold f.
@@ -58,7 +57,6 @@ records-preserved-in-Whole g c =
       numbered = s.numbered;
       kept = kept_then _ _ _ c.records.invariant.kept s.kept;
       cause = s.cause ∙ c.records.invariant.cause;
-      lawful = lawful_then _ _ _ _ _ _ _ c.records.invariant.lawful s.lawful;
       so_far = λ seen b hold f. goes_on _ _ _ b seen _ _ _ _ _ _ _ _ _ _ _ _ _ _ _ _ (c.records.invariant.so_far seen b hold f) h (passes _ _ s.kept) (ap meaning c.records.invariant.site) s.ran;
     }
 
@@ -71,7 +69,6 @@ records-preserved g c =
       numbered = s.numbered;
       kept = kept_then _ _ _ c.records.invariant.kept s.kept;
       cause = s.cause ∙ c.records.invariant.cause;
-      lawful = lawful_then _ _ _ _ _ _ _ c.records.invariant.lawful s.lawful;
       so_far = λ seen b hold f. goes_on _ _ _ b seen _ _ _ _ _ _ _ _ _ _ _ _ _ _ _ _ (c.records.invariant.so_far seen b hold f) h (passes _ _ s.kept) (ap meaning c.records.invariant.site) s.ran;
     }
 
@@ -81,15 +78,3 @@ records-smaller g c =
     let some : 0 < length h.word = some_word h.word _ h.spells in
     let is = ap length h.is ∙ length-append h.word c.next.new.self.rest in
     omega arith
-
-pub returns-in-Fault-clause-lawful : goal.returns-in-Fault-clause-lawful
-returns-in-Fault-clause-lawful g c = lawful_then _ _ _ _ _ _ _ c.records.invariant.lawful c.in-Fault.ensures.lawful
-
-pub returns-in-Memory-clause-lawful : goal.returns-in-Memory-clause-lawful
-returns-in-Memory-clause-lawful g c = lawful_then _ _ _ _ _ _ _ c.records.invariant.lawful c.in-Memory.ensures.lawful
-
-pub returns-in-NotYet-clause-lawful : goal.returns-in-NotYet-clause-lawful
-returns-in-NotYet-clause-lawful g c = lawful_then _ _ _ _ _ _ _ c.records.invariant.lawful c.in-NotYet.ensures.lawful
-
-pub returns-in-Err-Memory-clause-lawful : goal.returns-in-Err-Memory-clause-lawful
-returns-in-Err-Memory-clause-lawful g c = lawful_then _ _ _ _ _ _ _ c.records.invariant.lawful (lawful_stop _ _ _ _ refl refl refl)

@@ -7,7 +7,6 @@ use Rattle.resin_serve.specs.declared.give.Given.TheVariants.{Whole}
 use Rattle.resin_serve.specs.Ran.{world}
 use Rattle.resin_serve.specs.Gives.{CausedIn, counts, sinks}
 use Rattle.resin_serve.specs.Kept.{Kept, keepers}
-use Rattle.resin_serve.specs.Lawful_answers.{LeftLawfully, told_of}
 use Rattle.resin_serve.specs.Asked.{meaning}
 use Rattle.resin_serve.specs.Lines.{Hold}
 use Rattle.resin_serve.specs.Top.{WentOn, Beyond}
@@ -22,8 +21,6 @@ invariant-records g l = record {
   cause : CausedIn Whole
       (sinks (counts (g.L.Sink.faults l.fn.log) (g.L.Sink.stalls l.fn.log)) (counts (g.M.Sink.faults l.fn.mail) (g.M.Sink.stalls l.fn.mail)) (counts (g.O.Sink.faults l.fn.out) (g.O.Sink.stalls l.fn.out)))
       (sinks (counts (g.L.Sink.faults l.log) (g.L.Sink.stalls l.log)) (counts (g.M.Sink.faults l.mail) (g.M.Sink.stalls l.mail)) (counts (g.O.Sink.faults l.out) (g.O.Sink.stalls l.out)));
-  lawful : LeftLawfully Whole l.fn.run.number l.run.number
-      (told_of (g.L.Sink.written l.fn.log) (g.M.Sink.written l.fn.mail) (g.O.Sink.written l.fn.out)) (told_of (g.L.Sink.written l.log) (g.M.Sink.written l.mail) (g.O.Sink.written l.out));
   so_far : (seen : List TraceEvent) (b : ℕ) → Hold l.fn.run.connections seen → Beyond b l.fn.reader
       → WentOn Whole (meaning l.fn.run.site) b seen l.fn.reader l.reader l.fn.run.number l.run.number l.run.calls.made l.run.calls.failed l.run.connections
       (world (g.L.Sink.written l.fn.log) (g.M.Sink.written l.fn.mail) (g.O.Sink.written l.fn.out) (store_of (g.F.Files.stored l.fn.files) (g.T.Tables.stored l.fn.tables)) l.fn.run.calls.made)

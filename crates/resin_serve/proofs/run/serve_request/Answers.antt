@@ -1,4 +1,4 @@
-use Rattle.std.proofs.Common.{None, refl, sym, ap, subst, ◌∙◌}
+use Rattle.std.proofs.Common.{refl, sym, ap, subst, ◌∙◌}
 use Rattle.resin_base.specs.declared.calls.Calls.{Calls}
 use Rattle.resin_site.specs.Keeping.{Later, store_of}
 use Rattle.resin_serve.specs.Ran.{world}
@@ -6,7 +6,6 @@ use Rattle.resin_serve.specs.Kept.{Kept, keepers}
 use Rattle.resin_base.specs.Numbering.{AreNumbered}
 use Rattle.resin_serve.proofs.Runs.{ran_amid, ran_met, ran_gave}
 use Rattle.resin_serve.proofs.Request_kept.{request_kept}
-use Rattle.resin_serve.proofs.Lawful_runs.{lawful_stop, lawful_unbuilt, served_left, built}
 use Rattle.resin_serve.proofs.run.serve_request.Goals as goal
 
 pub returns-in_default-clause-kept : goal.returns-in_default-clause-kept
@@ -16,12 +15,6 @@ returns-in_default-clause-kept g c =
 
 pub returns-in_default-clause-ran : goal.returns-in_default-clause-ran
 returns-in_default-clause-ran g c = λ place K k. ran_amid _ _ _ K _ _ place _ c.in_default.field-0 _ _ refl refl refl (c.in_default.ensures.served K k)
-
-pub returns-in_default-clause-lawful : goal.returns-in_default-clause-lawful
-returns-in_default-clause-lawful g c = lawful_stop _ _ _ _ refl refl refl
-
-pub returns-in-NotYet-clause-lawful : goal.returns-in-NotYet-clause-lawful
-returns-in-NotYet-clause-lawful g c = lawful_unbuilt _ _ _ _ refl refl refl
 
 pub returns-in-NotYet-clause-kept : goal.returns-in-NotYet-clause-kept
 returns-in-NotYet-clause-kept g c =
@@ -43,9 +36,8 @@ returns g c =
           (request_kept _ _ _ _ _ _ _ _ _ _ _ _ c.requires s.blames s.counted s.told);
       ran = λ place K k. ran_gave _ _ _ _ K _ _ place _ c.in-Ok.outcome _
           (world (g.L.Sink.written c.args.log.now) (g.M.Sink.written c.args.mail.now) (g.O.Sink.written c.args.out.now) (store_of (g.F.Files.stored c.serve_one-served.new.files) (g.T.Tables.stored c.serve_one-served.new.tables)) c.serve_one-served.new.calls.made)
-          _ refl (e.gave _ _ _ _)
+          _ refl c.in-Ok.ensures.lawful (e.gave _ _ _ _)
           (c.in-Ok.ensures.served K (subst (λ (x : Calls). Later x.made x.failed K) e.same.2 k)) refl (ap (λ (x : Calls). x.made) e.same.2);
-      lawful = served_left _ _ _ _ c.in-Ok.outcome _ _ (built _ c.in-Served.is (λ i n. let j = i.1 in cc) (λ i n. let j = i.1 in cc)) c.in-Ok.ensures.lawful (e.gave None 0 None 0) e.number;
       number = e.number;
       cause = e.cause;
     }

@@ -2,7 +2,6 @@ use Rattle.std.proofs.Common.{refl, ◌∙◌}
 use Rattle.resin_serve.proofs.Keeping.{numbered}
 use Rattle.resin_serve.proofs.Request_kept.{later_self}
 use Rattle.resin_serve.proofs.Completing.{completes, no_fails, runs_nothing, runs_with, some_same, kept_new}
-use Rattle.resin_serve.proofs.Lawful_runs.{lawful_none, lawful_stop}
 use Rattle.resin_serve.proofs.top.serve.Goals as goal
 
 pub returns-in_default-clause-kept : goal.returns-in_default-clause-kept
@@ -26,9 +25,3 @@ returns-clause-complete g c = λ fuel taken left f p q good calm. (
   completes _ _ _ taken left _ _ _ _ _ _ _ _ (c.serve_trace-status.ensures.ran _ taken left (later_self _ _) p q) good c.serve_trace-status.ensures.cause c.serve_trace-status.ensures.read calm,
   no_fails _ _ c.serve_trace-status.ensures.kept c.new.ensures calm.files_stay calm.tables_stay,
 )
-
-pub returns-in_default-clause-lawful : goal.returns-in_default-clause-lawful
-returns-in_default-clause-lawful g c = (1, lawful_none _ _ _ refl refl refl)
-
-pub returns-in_default-new-clause-lawful : goal.returns-in_default-new-clause-lawful
-returns-in_default-new-clause-lawful g c = (1, lawful_stop _ _ _ _ refl refl refl)

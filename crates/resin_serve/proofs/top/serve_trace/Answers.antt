@@ -2,7 +2,6 @@ use Rattle.std.proofs.Common.{refl, ap, arith, ◌∙◌, length-take}
 use Rattle.resin_serve.specs.Asked.{meaning}
 use Rattle.resin_serve.proofs.Serve_runs.{begin_run, join_at, ends_bad, ends_long, ends_fault, ends_memory, ends_unbuilt, ends_read, ends_trace, ends_full, fed_run, falls_fed}
 use Rattle.resin_serve.proofs.Keeping.{kept_none, kept_then, passes}
-use Rattle.resin_serve.proofs.Lawful_runs.{lawful_begin, lawful_stop, lawful_then, lawful_end}
 use Rattle.resin_serve.proofs.top.serve_trace.Goals as goal
 
 pub reads-init : goal.reads-init
@@ -13,7 +12,6 @@ reads-init g c = record {
   buf = refl;
   kept = kept_none _;
   cause = refl;
-  lawful = lawful_begin _ _ c.requires.number;
   so_far = begin_run _ _ _ _ _ _ _ _ c.new-reader.ensures c.requires.number c.requires.new;
 }
 
@@ -73,7 +71,6 @@ reads-preserved g c = record {
   buf = c.take.auto.buf ∙ c.reads.invariant.buf;
   kept = kept_then _ _ _ c.reads.invariant.kept c.in-Wait.ensures.kept;
   cause = c.in-Wait.ensures.cause ∙ c.reads.invariant.cause;
-  lawful = lawful_then _ _ _ _ _ _ _ c.reads.invariant.lawful c.in-Wait.ensures.lawful;
   so_far = fed_run _ _ _ _ _ _ _ _ _ _ _ _ _ _ _ _ _ (join_at _ _ _ _ _ _ _ _ _ _ _ _ _ _ _ _ _ _ c.reads.invariant.so_far (passes _ _ c.in-Wait.ensures.kept) (ap meaning c.reads.invariant.site) c.in-Wait.ensures.went) c.in-Ok.ensures.moved refl (c.take.auto.buf ∙ c.reads.invariant.buf) c.in-Ok-take_in.ensures;
 }
 
@@ -81,27 +78,3 @@ pub reads-smaller : goal.reads-smaller
 reads-smaller g c =
     falls_fed _ _ _ _ _ _ _ _ _ _ _ _ _ _ _ _ _ _ _ c.reads.invariant.so_far c.in-Wait.ensures.went
     (omega (arith, c.in-Ok.ensures.bound, c.take.auto.buf, length-take c.in-Ok.count c.take.new.buf)) c.in-Ok-take_in.ensures
-
-pub returns-in-Bad-clause-lawful : goal.returns-in-Bad-clause-lawful
-returns-in-Bad-clause-lawful g c = (_, lawful_then _ _ _ _ _ _ _ c.reads.invariant.lawful c.in-Bad.ensures.lawful)
-
-pub returns-in-TooLong-clause-lawful : goal.returns-in-TooLong-clause-lawful
-returns-in-TooLong-clause-lawful g c = (_, lawful_then _ _ _ _ _ _ _ c.reads.invariant.lawful c.in-TooLong.ensures.lawful)
-
-pub returns-in-Fault-clause-lawful : goal.returns-in-Fault-clause-lawful
-returns-in-Fault-clause-lawful g c = (_, lawful_then _ _ _ _ _ _ _ c.reads.invariant.lawful c.in-Fault.ensures.lawful)
-
-pub returns-in-Memory-clause-lawful : goal.returns-in-Memory-clause-lawful
-returns-in-Memory-clause-lawful g c = (_, lawful_then _ _ _ _ _ _ _ c.reads.invariant.lawful c.in-Memory.ensures.lawful)
-
-pub returns-in-NotYet-clause-lawful : goal.returns-in-NotYet-clause-lawful
-returns-in-NotYet-clause-lawful g c = (_, lawful_then _ _ _ _ _ _ _ c.reads.invariant.lawful c.in-NotYet.ensures.lawful)
-
-pub returns-in-Err-clause-lawful : goal.returns-in-Err-clause-lawful
-returns-in-Err-clause-lawful g c = (_, lawful_then _ _ _ _ _ _ _ c.reads.invariant.lawful c.in-Wait.ensures.lawful)
-
-pub returns-then-count-eq0-clause-lawful : goal.returns-then-count-eq0-clause-lawful
-returns-then-count-eq0-clause-lawful g c = lawful_end _ _ _ _ _ c.finished.ensures (lawful_then _ _ _ _ _ _ _ c.reads.invariant.lawful c.in-Wait.ensures.lawful)
-
-pub returns-in_default-clause-lawful : goal.returns-in_default-clause-lawful
-returns-in_default-clause-lawful g c = (_, lawful_then _ _ _ _ _ _ _ (lawful_then _ _ _ _ _ _ _ c.reads.invariant.lawful c.in-Wait.ensures.lawful) (lawful_stop _ c.serve_ready.new.run.number _ _ refl refl refl))

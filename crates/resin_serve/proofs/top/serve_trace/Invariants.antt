@@ -6,7 +6,6 @@ use Rattle.resin_serve.specs.declared.give.Given.TheVariants.{Whole}
 use Rattle.resin_serve.specs.Ran.{world}
 use Rattle.resin_serve.specs.Gives.{CausedIn, counts, sinks}
 use Rattle.resin_serve.specs.Kept.{Kept, keepers}
-use Rattle.resin_serve.specs.Lawful_answers.{LeftLawfully, told_of}
 use Rattle.resin_serve.specs.Asked.{meaning}
 use Rattle.resin_serve.specs.Whole_run.{RunsSo}
 use Rattle.resin_serve.proofs.Serve_runs.{measure}
@@ -23,8 +22,6 @@ invariant-reads g l = record {
   cause : CausedIn Whole
       (sinks (counts (g.L.Sink.faults l.fn.log) (g.L.Sink.stalls l.fn.log)) (counts (g.M.Sink.faults l.fn.mail) (g.M.Sink.stalls l.fn.mail)) (counts (g.O.Sink.faults l.fn.out) (g.O.Sink.stalls l.fn.out)))
       (sinks (counts (g.L.Sink.faults l.log) (g.L.Sink.stalls l.log)) (counts (g.M.Sink.faults l.mail) (g.M.Sink.stalls l.mail)) (counts (g.O.Sink.faults l.out) (g.O.Sink.stalls l.out)));
-  lawful : LeftLawfully Whole 1 l.run.number
-      (told_of (g.L.Sink.written l.fn.log) (g.M.Sink.written l.fn.mail) (g.O.Sink.written l.fn.out)) (told_of (g.L.Sink.written l.log) (g.M.Sink.written l.mail) (g.O.Sink.written l.out));
   so_far : RunsSo (meaning l.fn.run.site) (g.S.Source.left l.fn.trace) (g.S.Source.left l.trace) l.reader l.run.number l.run.calls.made l.run.calls.failed l.run.connections
       (world (g.L.Sink.written l.fn.log) (g.M.Sink.written l.fn.mail) (g.O.Sink.written l.fn.out) (store_of (g.F.Files.stored l.fn.files) (g.T.Tables.stored l.fn.tables)) l.fn.run.calls.made)
       (world (g.L.Sink.written l.log) (g.M.Sink.written l.mail) (g.O.Sink.written l.out) (store_of (g.F.Files.stored l.files) (g.T.Tables.stored l.tables)) l.run.calls.made);
