@@ -5,7 +5,7 @@ use Rattle.std.proofs.lemmas.List.{append-nil}
 use Rattle.resin_serve.specs.declared.give.Given.{Given}
 use Rattle.resin_serve.specs.declared.give.Given.TheVariants.{Whole, Fault, Memory, NotYet}
 use Rattle.resin_site.specs.Keeping.{Store, St, WhereTold}
-use Rattle.resin_serve.specs.Meaning.{Meaning, Owed, tagged, reply, bytes_of, after_of}
+use Rattle.resin_serve.specs.Meaning.{Meaning, Owed, tagged, reply, bytes_of, after_of, AllObey}
 use Rattle.std.specs.declared.alloc.AllocError.{AllocError}
 use Rattle.std.specs.Prelude.{Ok, Err}
 use Rattle.resin_http.specs.Stream.{asks, refuses}
@@ -13,7 +13,8 @@ use Rattle.resin_serve.specs.Gives.{GaveAll, three}
 use Rattle.resin_http.specs.declared.request.Request.{Request}
 use Rattle.resin_site.specs.declared.outcome.Outcome.{Outcome}
 use Rattle.resin_site.specs.declared.outcome.End.TheVariants.{NotYet as Unbuilt}
-use Rattle.resin_site.specs.Serving.{Served}
+use Rattle.resin_site.specs.Laws.{IsLawful, Obeys, ObeysIn}
+use Rattle.resin_site.specs.Serving.{Served, IsReply}
 use Rattle.resin_site.specs.Outcomes.{refusal_text}
 use Rattle.resin_journal.specs.Events.{EventList}
 use Rattle.resin_journal.specs.Lines.{log_of}
@@ -35,6 +36,11 @@ pub after_append : (R : Meaning) (K : List ℕ) (s : St) (n m : ℕ) (xs ys : Li
     → after_of R K s n (xs ++ ys) ≡ after_of R K (after_of R K s n xs) m ys
 after_append R K s n m [] ys e = let f : n ≡ m = omega arith in ap (λ k. after_of R K s k ys) f
 after_append R K s n m (x ∷ xs) ys e = after_append R K (reply R K s n x).after (n + 1) m xs ys (omega arith)
+
+pub all_obey_append : (R : Meaning) (K : List ℕ) (s : St) (n m : ℕ) (xs ys : List Owed) → m ≡ n + length xs
+    → AllObey R K s n xs → AllObey R K (after_of R K s n xs) m ys → AllObey R K s n (xs ++ ys)
+all_obey_append R K s n m [] ys e a b = let f : m ≡ n = omega arith in subst (λ k. AllObey R K s k ys) f b
+all_obey_append R K s n m (x ∷ xs) ys e a b = (a.0, all_obey_append R K (reply R K s n x).after (n + 1) m xs ys (omega arith) a.1 b)
 
 pub part_append : (k : ℕ) (xs ys : List (ℕ × ℕ)) → part k (xs ++ ys) ≡ part k xs ++ part k ys
 part_append k [] ys = refl
@@ -62,8 +68,8 @@ gained_trans a b c x y h k = record {
 }
 
 giving_then : (Q : Owed → Type 0) (R : Meaning) (K : List ℕ) (s : St) (n m : ℕ) (xs ys : List Owed) (old mid new : World)
-    → m ≡ n + length xs → Gained old mid (bytes_of R K s n xs) → Giving Q R K (after_of R K s n xs) m ys mid new → Giving Q R K s n (xs ++ ys) old new
-giving_then Q R K s n m xs ys old mid new e a h =
+    → m ≡ n + length xs → Gained old mid (bytes_of R K s n xs) → AllObey R K s n xs → Giving Q R K (after_of R K s n xs) m ys mid new → Giving Q R K s n (xs ++ ys) old new
+giving_then Q R K s n m xs ys old mid new e a l h =
     let num : m + length h.done ≡ n + length (xs ++ h.done) = omega (arith, length-append xs h.done) in
     let st : after_of R K (after_of R K s n xs) m h.done ≡ after_of R K s n (xs ++ h.done) = sym (after_append R K s n m xs h.done e) in
     record {
@@ -77,24 +83,26 @@ giving_then Q R K s n m xs ys old mid new e a h =
       split = ap (λ k. tagged (reply R K (after_of R K s n (xs ++ h.done)) k h.now)) (sym num)
           ∙ ap (λ t. tagged (reply R K t (m + length h.done) h.now)) (sym st) ∙ h.split;
       some = h.some;
+      lawful = subst (AllObey R K s n) (sym (append_assoc xs h.done (h.now ∷ []))) (all_obey_append R K s n m xs (h.done ++ h.now ∷ []) e l h.lawful);
       gained = subst (Gained old new) (sym (append_assoc (bytes_of R K s n xs) _ h.got) ∙ ap (λ l. l ++ h.got) (sym (bytes_append R K s n m xs h.done e)))
           (gained_trans old mid new _ _ a h.gained);
       state = subst (IsState new) (sym (after_append R K s n m xs (h.done ++ h.now ∷ []) e) ∙ ap (after_of R K s n) (sym (append_assoc xs h.done (h.now ∷ [])))) h.state;
     }
 
 before_then : (R : Meaning) (K : List ℕ) (s : St) (n m : ℕ) (xs ys : List Owed) (old mid new : World)
-    → m ≡ n + length xs → Gained old mid (bytes_of R K s n xs) → Before R K (after_of R K s n xs) m ys mid new → Before R K s n (xs ++ ys) old new
-before_then R K s n m xs ys old mid new e a h = record {
+    → m ≡ n + length xs → Gained old mid (bytes_of R K s n xs) → AllObey R K s n xs → Before R K (after_of R K s n xs) m ys mid new → Before R K s n (xs ++ ys) old new
+before_then R K s n m xs ys old mid new e a l h = record {
   done = xs ++ h.done;
   later = h.later;
   is = ap (λ l. xs ++ l) h.is ∙ sym (append_assoc xs h.done h.later);
+  lawful = all_obey_append R K s n m xs h.done e l h.lawful;
   gained = subst (Gained old new) (sym (bytes_append R K s n m xs h.done e)) (gained_trans old mid new _ _ a h.gained);
   state = subst (IsState new) (sym (after_append R K s n m xs h.done e)) h.state;
 }
 
 amid_then : (R : Meaning) (K : List ℕ) (s : St) (n m : ℕ) (xs ys : List Owed) (old mid new : World)
-    → m ≡ n + length xs → Gained old mid (bytes_of R K s n xs) → Amid R K (after_of R K s n xs) m ys mid new → Amid R K s n (xs ++ ys) old new
-amid_then R K s n m xs ys old mid new e a h =
+    → m ≡ n + length xs → Gained old mid (bytes_of R K s n xs) → AllObey R K s n xs → Amid R K (after_of R K s n xs) m ys mid new → Amid R K s n (xs ++ ys) old new
+amid_then R K s n m xs ys old mid new e a l h =
     let num : m + length h.done ≡ n + length (xs ++ h.done) = omega (arith, length-append xs h.done) in
     let st : after_of R K (after_of R K s n xs) m h.done ≡ after_of R K s n (xs ++ h.done) = sym (after_append R K s n m xs h.done e) in
     record {
@@ -102,6 +110,7 @@ amid_then R K s n m xs ys old mid new e a h =
       now = h.now;
       later = h.later;
       is = ap (λ l. xs ++ l) h.is ∙ sym (append_assoc xs h.done (h.now ∷ h.later));
+      lawful = all_obey_append R K s n m xs h.done e l h.lawful;
       gained = subst (Gained old new) (sym (bytes_append R K s n m xs h.done e)) (gained_trans old mid new _ _ a h.gained);
       at = h.at;
       reached = subst (λ t. Reached h.at (reply R K t (n + length (xs ++ h.done)) h.now).moments) st
@@ -111,8 +120,8 @@ amid_then R K s n m xs ys old mid new e a h =
     }
 
 meeting_then : (R : Meaning) (K : List ℕ) (s : St) (n m : ℕ) (xs ys : List Owed) (old mid new : World)
-    → m ≡ n + length xs → Gained old mid (bytes_of R K s n xs) → Meeting R K (after_of R K s n xs) m ys mid new → Meeting R K s n (xs ++ ys) old new
-meeting_then R K s n m xs ys old mid new e a h =
+    → m ≡ n + length xs → Gained old mid (bytes_of R K s n xs) → AllObey R K s n xs → Meeting R K (after_of R K s n xs) m ys mid new → Meeting R K s n (xs ++ ys) old new
+meeting_then R K s n m xs ys old mid new e a l h =
     let num : m + length h.done ≡ n + length (xs ++ h.done) = omega (arith, length-append xs h.done) in
     let st : after_of R K (after_of R K s n xs) m h.done ≡ after_of R K s n (xs ++ h.done) = sym (after_append R K s n m xs h.done e) in
     record {
@@ -122,22 +131,24 @@ meeting_then R K s n m xs ys old mid new e a h =
       is = ap (λ l. xs ++ l) h.is ∙ sym (append_assoc xs h.done (h.now ∷ h.later));
       not_yet = ap (λ k. (reply R K (after_of R K s n (xs ++ h.done)) k h.now).not_yet) (sym num)
           ∙ ap (λ t. (reply R K t (m + length h.done) h.now).not_yet) (sym st) ∙ h.not_yet;
+      lawful = all_obey_append R K s n m xs h.done e l h.lawful;
       gained = subst (Gained old new) (sym (bytes_append R K s n m xs h.done e)) (gained_trans old mid new _ _ a h.gained);
       state = subst (IsState new) (sym (after_append R K s n m xs (h.done ++ h.now ∷ []) e) ∙ ap (after_of R K s n) (sym (append_assoc xs h.done (h.now ∷ [])))) h.state;
     }
 
 -- what goes on from a state that a whole run reached
 pub through_then : (g : Given) (Q : Owed → Type 0) (R : Meaning) (K : List ℕ) (s : St) (n m : ℕ) (xs ys : List Owed) (old mid new : World)
-    → m ≡ n + length xs → Gained old mid (bytes_of R K s n xs) → RanFrom g Q R K (after_of R K s n xs) m ys mid new → RanFrom g Q R K s n (xs ++ ys) old new
-through_then Whole Q R K s n m xs ys old mid new e a h = record {
+    → m ≡ n + length xs → Gained old mid (bytes_of R K s n xs) → AllObey R K s n xs → RanFrom g Q R K (after_of R K s n xs) m ys mid new → RanFrom g Q R K s n (xs ++ ys) old new
+through_then Whole Q R K s n m xs ys old mid new e a l h = record {
+  lawful = all_obey_append R K s n m xs ys e l h.lawful;
   gained = subst (Gained old new) (sym (bytes_append R K s n m xs ys e)) (gained_trans old mid new _ _ a h.gained);
   state = subst (IsState new) (sym (after_append R K s n m xs ys e)) h.state;
 }
-through_then Fault Q R K s n m xs ys old mid new e a h = giving_then Q R K s n m xs ys old mid new e a h
-through_then Memory Q R K s n m xs ys old mid new e a (inl h) = inl (giving_then (λ _. ⊤) R K s n m xs ys old mid new e a h)
-through_then Memory Q R K s n m xs ys old mid new e a (inr (inl h)) = inr (inl (before_then R K s n m xs ys old mid new e a h))
-through_then Memory Q R K s n m xs ys old mid new e a (inr (inr h)) = inr (inr (amid_then R K s n m xs ys old mid new e a h))
-through_then NotYet Q R K s n m xs ys old mid new e a h = meeting_then R K s n m xs ys old mid new e a h
+through_then Fault Q R K s n m xs ys old mid new e a l h = giving_then Q R K s n m xs ys old mid new e a l h
+through_then Memory Q R K s n m xs ys old mid new e a l (inl h) = inl (giving_then (λ _. ⊤) R K s n m xs ys old mid new e a l h)
+through_then Memory Q R K s n m xs ys old mid new e a l (inr (inl h)) = inr (inl (before_then R K s n m xs ys old mid new e a l h))
+through_then Memory Q R K s n m xs ys old mid new e a l (inr (inr h)) = inr (inr (amid_then R K s n m xs ys old mid new e a l h))
+through_then NotYet Q R K s n m xs ys old mid new e a l h = meeting_then R K s n m xs ys old mid new e a l h
 
 at_state : (w : World) (t : St) (P : St → Type 0) → IsState w t → WhereTold w.store (λ s. P (record { store = s; made = w.made })) → P t
 at_state w t P i h =
@@ -152,7 +163,7 @@ pub ran_then : (g : Given) (Q Q' : Owed → Type 0) (R : Meaning) (K : List ℕ)
     → m ≡ n + length xs → Ran Whole Q' R K n xs old mid → Ran g Q R K m ys mid new → Ran g Q R K n (xs ++ ys) old new
 unfolding Ran
 ran_then g Q Q' R K n m xs ys old mid new e a h = where_then old.store _ _ (λ s t.
-    through_then g Q R K (record { store = s; made = old.made }) n m xs ys old mid new e t.gained
+    through_then g Q R K (record { store = s; made = old.made }) n m xs ys old mid new e t.gained t.lawful
     (at_state mid _ (λ t. RanFrom g Q R K t m ys mid new) t.state h)) a
 
 giving_more : (Q : Owed → Type 0) (R : Meaning) (K : List ℕ) (s : St) (n : ℕ) (xs ys : List Owed) (old new : World)
@@ -167,6 +178,7 @@ giving_more Q R K s n xs ys old new h = record {
   near = h.near;
   split = h.split;
   some = h.some;
+  lawful = h.lawful;
   gained = h.gained;
   state = h.state;
 }
@@ -181,6 +193,7 @@ more_from Memory Q R K s n xs ys old new ne (inr (inl h)) = inr (inl (record {
   done = h.done;
   later = h.later ++ ys;
   is = ap (λ l. l ++ ys) h.is ∙ append_assoc h.done h.later ys;
+  lawful = h.lawful;
   gained = h.gained;
   state = h.state;
 }))
@@ -189,6 +202,7 @@ more_from Memory Q R K s n xs ys old new ne (inr (inr h)) = inr (inr (record {
   now = h.now;
   later = h.later ++ ys;
   is = ap (λ l. l ++ ys) h.is ∙ append_assoc h.done (h.now ∷ h.later) ys;
+  lawful = h.lawful;
   gained = h.gained;
   at = h.at;
   reached = h.reached;
@@ -201,6 +215,7 @@ more_from NotYet Q R K s n xs ys old new ne h = record {
   later = h.later ++ ys;
   is = ap (λ l. l ++ ys) h.is ∙ append_assoc h.done (h.now ∷ h.later) ys;
   not_yet = h.not_yet;
+  lawful = h.lawful;
   gained = h.gained;
   state = h.state;
 }
@@ -220,12 +235,12 @@ told_with (Some s) P f = f s refl
 -- no answer was served
 pub ran_none : (Q : Owed → Type 0) (R : Meaning) (K : List ℕ) (n : ℕ) (w : World) → Ran Whole Q R K n [] w w
 unfolding Ran
-ran_none Q R K n w = told_with w.store _ (λ s e. record { gained = gained_none w; state = (refl, e) })
+ran_none Q R K n w = told_with w.store _ (λ s e. record { lawful = tt; gained = gained_none w; state = (refl, e) })
 
 -- nothing was done, for want of memory
 pub ran_stop : (Q : Owed → Type 0) (R : Meaning) (K : List ℕ) (n : ℕ) (xs : List Owed) (w : World) → Ran Memory Q R K n xs w w
 unfolding Ran
-ran_stop Q R K n xs w = told_with w.store _ (λ s e. inr (inl (record { done = []; later = xs; is = refl; gained = gained_none w; state = (refl, e) })))
+ran_stop Q R K n xs w = told_with w.store _ (λ s e. inr (inl (record { done = []; later = xs; is = refl; lawful = tt; gained = gained_none w; state = (refl, e) })))
 
 -- the answer whose bytes were given fits
 pub ran_near : (g : Given) (Q Q' : Owed → Type 0) (R : Meaning) (K : List ℕ) (n : ℕ) (xs : List Owed) (old new : World)
@@ -242,6 +257,7 @@ ran_near Fault Q Q' R K n xs old new f h = where_then old.store _ _ (λ s t. rec
   near = f t.now t.near;
   split = t.split;
   some = t.some;
+  lawful = t.lawful;
   gained = t.gained;
   state = t.state;
 }) h
@@ -250,9 +266,9 @@ ran_near NotYet Q Q' R K n xs old new f h = h
 
 -- one answer, of which a front of its bytes was given
 one_given : (g : Given) (Q : Owed → Type 0) (R : Meaning) (K : List ℕ) (s : St) (n : ℕ) (x : Owed) (old new : World) (got lost : List (ℕ × ℕ))
-    → Q x → tagged (reply R K s n x) ≡ got ++ lost → (lost ≡ [] → ⊥) → Gained old new got → IsState new (reply R K s n x).after
+    → Q x → Obeys n (reply R K s n x).is → tagged (reply R K s n x) ≡ got ++ lost → (lost ≡ [] → ⊥) → Gained old new got → IsState new (reply R K s n x).after
     → Giving Q R K s n (x ∷ []) old new
-one_given g Q R K s n x old new got lost q e ne a i =
+one_given g Q R K s n x old new got lost q l e ne a i =
     let z : n ≡ n + 0 = omega arith in
     record {
       done = [];
@@ -264,20 +280,22 @@ one_given g Q R K s n x old new got lost q e ne a i =
       near = q;
       split = subst (λ k. tagged (reply R K s k x) ≡ got ++ lost) z e;
       some = ne;
+      lawful = (l, tt);
       gained = a;
       state = i;
     }
 
 -- the outcome of one answer was given as far as it was
 one_from : (g : Given) (Q : Owed → Type 0) (R : Meaning) (K : List ℕ) (s : St) (n : ℕ) (x : Owed) (old new : World)
-    → Q x → GaveAll g (tagged (reply R K s n x)) old new → IsState new (reply R K s n x).after → RanFrom g Q R K s n (x ∷ []) old new
-one_from Whole Q R K s n x old new q a i = record {
+    → Q x → Obeys n (reply R K s n x).is → GaveAll g (tagged (reply R K s n x)) old new → IsState new (reply R K s n x).after → RanFrom g Q R K s n (x ∷ []) old new
+one_from Whole Q R K s n x old new q l a i = record {
+  lawful = (l, tt);
   gained = subst (Gained old new) (sym (append-nil a.got) ∙ ap (λ l. a.got ++ l) (sym a.lost_is) ∙ sym a.split ∙ sym (append-nil (tagged (reply R K s n x)))) a.gained;
   state = i;
 }
-one_from Fault Q R K s n x old new q a i = one_given Fault Q R K s n x old new a.got a.lost q a.split a.lost_is a.gained i
-one_from NotYet Q R K s n x old new q a i = absurd a.lost_is
-one_from Memory Q R K s n x old new q a i = inl (one_given Memory (λ _. ⊤) R K s n x old new a.got a.lost tt a.split a.lost_is a.gained i)
+one_from Fault Q R K s n x old new q l a i = one_given Fault Q R K s n x old new a.got a.lost q l a.split a.lost_is a.gained i
+one_from NotYet Q R K s n x old new q l a i = absurd a.lost_is
+one_from Memory Q R K s n x old new q l a i = inl (one_given Memory (λ _. ⊤) R K s n x old new a.got a.lost tt l a.split a.lost_is a.gained i)
 
 -- the log, the mail and the response of an outcome are the reply's
 texts_of : (g : Given) (conn : ℕ) (lines mails response : List ℕ) (r : site.Reply) (old new : World) → lines ≡ r.log → mails ≡ r.mail → response ≡ r.response
@@ -292,14 +310,19 @@ logs : (fuel : ℕ) (K : List ℕ) (s : Store) (made n : ℕ) (r : Request) (j :
 unfolding site.request
 logs fuel K s made n r j e = ap (log_of n) e
 
+-- the reply that tells a lawful outcome obeys the access law
+reply_obeys : (n : ℕ) (o : Outcome) (r : site.Reply) → IsReply o r → IsLawful n o → Obeys n r
+reply_obeys n o r told law = subst (λ end. ObeysIn end n r) told.end (record { outcome = o; told = told; lawful = law })
+
 -- a request's answer was given as far as it was
 pub ran_gave : (g : Given) (Q : Owed → Type 0) (Called : List KeeperCall → Type 0) (fuel : ℕ) (K : List ℕ) (n conn place : ℕ) (r : Request) (o : Outcome) (old mid new : World)
-    → Q (record { conn = conn; asked = asks r; place = place }) → GaveAll g (three (log_of n o.journal) o.mail (record_text conn o.response)) old new
+    → Q (record { conn = conn; asked = asks r; place = place }) → IsLawful n o → GaveAll g (three (log_of n o.journal) o.mail (record_text conn o.response)) old new
     → Served fuel K old.store old.made n r Called (Ok o) mid.store mid.made → new.store ≡ mid.store → new.made ≡ mid.made
     → Ran g Q (meaning fuel) K n (record { conn = conn; asked = asks r; place = place } ∷ []) old new
 unfolding Ran
-ran_gave g Q Called fuel K n conn place r o old mid new q a h st ma = where_then old.store _ _ (λ s t.
+ran_gave g Q Called fuel K n conn place r o old mid new q law a h st ma = where_then old.store _ _ (λ s t.
     one_from g Q (meaning fuel) K (record { store = s; made = old.made }) n (record { conn = conn; asked = asks r; place = place }) old new q
+    (reply_obeys n o (site.request fuel K s old.made n r) t.says law)
     (texts_of g conn (log_of n o.journal) o.mail o.response (site.request fuel K s old.made n r) old new (logs fuel K s old.made n r o.journal t.says.journal) t.says.mail t.says.response a)
     (ma ∙ t.made_is, st ∙ t.store_is)) h
 
@@ -323,6 +346,7 @@ ran_amid Q Called fuel K n conn place r e old new l m u h = where_then old.store
       now = record { conn = conn; asked = asks r; place = place };
       later = [];
       is = refl;
+      lawful = tt;
       gained = gained_same old new l m u;
       at = t.at;
       reached = subst (λ k. Reached t.at (reply (meaning fuel) K (record { store = s; made = old.made }) k (record { conn = conn; asked = asks r; place = place })).moments) z t.reached;
@@ -345,6 +369,7 @@ ran_met Q Called fuel K n conn place r o old new l m u e h = where_then old.stor
       is = refl;
       not_yet = subst (λ k. (reply (meaning fuel) K (record { store = s; made = old.made }) k (record { conn = conn; asked = asks r; place = place })).not_yet ≡ true) z
           (ap is_unbuilt (sym t.says.end ∙ ap (λ x. Some x) e));
+      lawful = tt;
       gained = gained_same old new l m u;
       state = (t.made_is, t.store_is);
     }) h
@@ -356,7 +381,7 @@ pub ran_refused : (g : Given) (Q : Owed → Type 0) (fuel : ℕ) (K : List ℕ) 
     → Ran g Q (meaning fuel) K n (record { conn = conn; asked = refuses status; place = place } ∷ []) old new
 unfolding Ran
 ran_refused g Q fuel K n conn status place response old new q a st ma e = told_with old.store _ (λ s i.
-    one_from g Q (meaning fuel) K (record { store = s; made = old.made }) n (record { conn = conn; asked = refuses status; place = place }) old new q
+    one_from g Q (meaning fuel) K (record { store = s; made = old.made }) n (record { conn = conn; asked = refuses status; place = place }) old new q tt
     (texts_of g conn [] [] response (site.refusal s old.made status) old new refl refl e a) (ma, st ∙ i))
 
 -- of a whole run nothing is said of an answer whose bytes were being given

@@ -18,6 +18,7 @@ recorded conn r = record {
   log = r.log;
   mail = r.mail;
   out = record_text conn r.response;
+  is = r;
   not_yet = is_unbuilt r.end;
   after = r.after;
   moments = r.moments;

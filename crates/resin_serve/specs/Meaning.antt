@@ -1,17 +1,20 @@
 -- The meaning of a run (this project): what each stream is owed, in the order in which records complete it, and one request after another.
-use Rattle.std.specs.Prelude.{ℕ, ◌+◌, ◌==◌, Bool, List, [], ◌∷◌, ◌++◌, length, drop, map, if◌then◌else◌}
+use Rattle.std.specs.Prelude.{ℕ, ◌+◌, ◌==◌, Bool, List, [], ◌∷◌, ◌++◌, length, drop, map, if◌then◌else◌, ⊤}
 use Rattle.resin_program.specs.Programs.{Moment}
 use Rattle.resin_site.specs.Keeping.{St}
 use Rattle.resin_trace.specs.declared.event.TraceEvent.{TraceEvent}
 use Rattle.resin_trace.specs.declared.event.TraceEvent.TheVariants.{Piece, End}
 use Rattle.resin_http.specs.Stream.{Answer, answers}
+use Rattle.resin_site.specs.Laws.{Obeys}
+use Rattle.resin_site.specs.Replies as site
 
--- what an answer gives to the three sinks, whether it meets what isn't built, the state after it, and the moments that it goes through: each with
--- what the keepers hold then and the answer's keeper calls until then
+-- what an answer gives to the three sinks, the reply of the site that it is, whether it meets what isn't built, the state after it, and the moments that
+-- it goes through: each with what the keepers hold then and the answer's keeper calls until then
 pub record Reply : Type 0 where
   pub log : List ℕ
   pub mail : List ℕ
   pub out : List ℕ
+  pub is : site.Reply
   pub not_yet : Bool
   pub after : St
   pub moments : List Moment
@@ -68,3 +71,8 @@ bytes_of R K s number (a ∷ xs) = tagged (reply R K s number a) ++ bytes_of R K
 abbrev pub after_of : Meaning → List ℕ → St → ℕ → List Owed → St
 after_of R K s number [] = s
 after_of R K s number (a ∷ xs) = after_of R K (reply R K s number a).after (number + 1) xs
+
+-- each of these answers of the run obeys the access law at its number
+abbrev pub AllObey : Meaning → List ℕ → St → ℕ → List Owed → Type 0
+AllObey R K s number [] = ⊤
+AllObey R K s number (a ∷ xs) = Obeys number (reply R K s number a).is × AllObey R K (reply R K s number a).after (number + 1) xs

@@ -5,7 +5,7 @@ use Rattle.resin_serve.specs.declared.give.Given.TheVariants.{Whole, Fault, Memo
 use Rattle.resin_program.specs.Programs.{Moment}
 use Rattle.resin_program.specs.Runs.{Reached}
 use Rattle.resin_site.specs.Keeping.{Store, St, WhereTold}
-use Rattle.resin_serve.specs.Meaning.{Meaning, Owed, tagged, reply, bytes_of, after_of}
+use Rattle.resin_serve.specs.Meaning.{Meaning, Owed, tagged, reply, bytes_of, after_of, AllObey}
 
 -- told contents grew by these bytes
 abbrev pub Grew : Option (List ℕ) → Option (List ℕ) → List ℕ → Type 0
@@ -39,6 +39,8 @@ pub record Gained (old new : World) (got : List (ℕ × ℕ)) : Type 0 where
 abbrev pub IsState : World → St → Type 0
 IsState w s = (w.made ≡ s.made) × (w.store ≡ Some s.store)
 
+-- How a run ends follows, in five records. In each of them `lawful` says that every answer that gave a byte obeys the access law.
+
 -- a run from a state over answers that stopped while an answer's bytes were given: a front of them was, and some weren't
 pub record Giving (Q : Owed → Type 0) (R : Meaning) (K : List ℕ) (s : St) (number : ℕ) (xs : List Owed) (old new : World) : Type 0 where
   pub done : List Owed
@@ -50,6 +52,7 @@ pub record Giving (Q : Owed → Type 0) (R : Meaning) (K : List ℕ) (s : St) (n
   pub near : Q now
   pub split : tagged (reply R K (after_of R K s number done) (number + length done) now) ≡ got ++ lost
   pub some : lost ≢ []
+  pub lawful : AllObey R K s number (done ++ now ∷ [])
   pub gained : Gained old new (bytes_of R K s number done ++ got)
   pub state : IsState new (after_of R K s number (done ++ now ∷ []))
 
@@ -58,6 +61,7 @@ pub record Before (R : Meaning) (K : List ℕ) (s : St) (number : ℕ) (xs : Lis
   pub done : List Owed
   pub later : List Owed
   pub is : xs ≡ done ++ later
+  pub lawful : AllObey R K s number done
   pub gained : Gained old new (bytes_of R K s number done)
   pub state : IsState new (after_of R K s number done)
 
@@ -68,6 +72,7 @@ pub record Amid (R : Meaning) (K : List ℕ) (s : St) (number : ℕ) (xs : List 
   pub later : List Owed
   pub at : Moment
   pub is : xs ≡ done ++ now ∷ later
+  pub lawful : AllObey R K s number done
   pub gained : Gained old new (bytes_of R K s number done)
   pub reached : Reached at (reply R K (after_of R K s number done) (number + length done) now).moments
   pub made : new.made ≡ (after_of R K s number done).made + length at.calls
@@ -80,11 +85,13 @@ pub record Meeting (R : Meaning) (K : List ℕ) (s : St) (number : ℕ) (xs : Li
   pub later : List Owed
   pub is : xs ≡ done ++ now ∷ later
   pub not_yet : (reply R K (after_of R K s number done) (number + length done) now).not_yet ≡ true
+  pub lawful : AllObey R K s number done
   pub gained : Gained old new (bytes_of R K s number done)
   pub state : IsState new (after_of R K s number (done ++ now ∷ []))
 
 -- the whole run
 pub record Through (R : Meaning) (K : List ℕ) (s : St) (number : ℕ) (xs : List Owed) (old new : World) : Type 0 where
+  pub lawful : AllObey R K s number xs
   pub gained : Gained old new (bytes_of R K s number xs)
   pub state : IsState new (after_of R K s number xs)
 

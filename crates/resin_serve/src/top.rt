@@ -45,7 +45,7 @@ pub fn serve<S: Source, O: Sink, L: Sink, M: Sink, F: Files, T: Tables>(
         → (trace.new ≡ trace.old) × (out.new ≡ out.old) × (log.new ≡ log.old) × (mail.new ≡ mail.old) × (files.new ≡ files.old) × (tables.new ≡ tables.old)
         × (result.made ≡ 0) × (result.failed ≡ []) }
 
-    // What the sinks gained and the keepers hold is the meaning's, as far as the status says.
+    // What the sinks gained and the keepers hold is the meaning's, as far as the status says, and each answer that gave a byte obeys the access law.
     ensures run { (fuel : ℕ) (all left : List ℕ) → fuel_of (map string_bytes words.now) ≡ Some fuel → S.left trace.old ≡ Some all → S.left trace.new ≡ Some left
         → Runs result.status (meaning fuel) result.failed all left
         (world (L.written log.old) (M.written mail.old) (O.written out.old) (store_of (F.stored files.old) (T.stored tables.old)) 0)

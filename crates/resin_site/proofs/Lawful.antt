@@ -19,6 +19,7 @@ lawful_parts request path head_only end s law tied = record {
   mail = tied.mail;
   headers = tied.headers;
   status = λ e. subst (λ x. (status_of x s.status ≡ 200) ⊎ ((status_of x s.status ≡ 302) ⊎ IsOneOf (decimal (status_of x s.status)) (sent_lines s.journal))) (sym e) tied.status;
+  response = λ built. record { path = path; head_only = head_only; text = refl };
 }
 
 nothing : ObeysAccessLaw []
@@ -31,4 +32,5 @@ lawful_unbuilt request = record {
   mail = Rattle.std.proofs.Common.refl;
   headers = tt;
   status = λ e. cc;
+  response = λ built. absurd (built refl);
 }

@@ -1,17 +1,44 @@
 -- The access law of an answer: data leaves only through checked writes, and the answer is what they sent (RESIN's claim, over this project's journal).
-use Rattle.std.specs.Prelude.{◌≡◌, ℕ, ◌++◌, decimal, ◌⊎◌}
+use Rattle.std.specs.Prelude.{◌≡◌, ◌≢◌, ℕ, Bool, List, ◌++◌, decimal, ◌⊎◌, Option, Some, None, ⊤}
+use Rattle.resin_http.specs.Response.{response}
 use Rattle.resin_journal.specs.Access.{ObeysAccessLaw}
 use Rattle.resin_stage.specs.Ties.{sent_body, sent_mails, sent_headers, sent_lines, IsPartOf, IsOneOf}
-use Rattle.resin_site.specs.declared.outcome.End.TheVariants.{Served}
+use Rattle.resin_site.specs.declared.outcome.End.TheVariants.{Served, NotYet}
+use Rattle.resin_site.specs.declared.outcome.End.{End}
 use Rattle.resin_site.specs.declared.outcome.Outcome.{Outcome}
-use Rattle.resin_site.specs.Outcomes.{fixed_text}
+use Rattle.resin_site.specs.Outcomes.{fixed_text, kind_at}
+use Rattle.resin_site.specs.Replies.{Reply}
+use Rattle.resin_site.specs.Serving.{IsReply}
+
+-- the response is the text of the status, the headers and the body, or, where only the head was asked for, of them without the body; a path tells the
+-- type where no header does
+pub record IsTextOfParts (o : Outcome) : Type 0 where
+  pub path : List ℕ
+  pub head_only : Bool
+  pub text : o.response ≡ response o.status o.headers (kind_at o.end path) o.body head_only
 
 -- The journal obeys the law of writes. The body is what was sent on `http`, and then the fixed text of the end. The mail is what was sent on
 -- `email`, in the request of this number. Each header was sent on `header`, and they stand in that order. Where the request was served, the status
--- is the first one, that of a `Location` header, or was sent.
+-- is the first one, that of a `Location` header, or was sent. The response says this status, these headers and this body, and nothing else; only what
+-- isn't built has no response.
 pub record IsLawful (request : ℕ) (o : Outcome) : Type 0 where
   pub writes : ObeysAccessLaw o.journal
   pub body : o.body ≡ sent_body o.journal ++ fixed_text o.end
   pub mail : o.mail ≡ sent_mails request o.journal
   pub headers : IsPartOf o.headers (sent_headers o.journal)
   pub status : o.end ≡ Served → (o.status ≡ 200) ⊎ ((o.status ≡ 302) ⊎ IsOneOf (decimal o.status) (sent_lines o.journal))
+  pub response : o.end ≢ NotYet → IsTextOfParts o
+
+-- an outcome that this reply tells obeys the access law: all its parts are the reply's
+pub record TellsLawful (request : ℕ) (r : Reply) : Type 0 where
+  pub outcome : Outcome
+  pub told : IsReply outcome r
+  pub lawful : IsLawful request outcome
+
+abbrev pub ObeysIn : Option End → ℕ → Reply → Type 0
+ObeysIn None request r = ⊤
+ObeysIn (Some end) request r = TellsLawful request r
+
+-- a reply obeys the access law at this number; where the stream was refused nothing is asked of it
+abbrev pub Obeys : ℕ → Reply → Type 0
+Obeys request r = ObeysIn r.end request r

@@ -36,7 +36,7 @@ returns g c =
           (request_kept _ _ _ _ _ _ _ _ _ _ _ _ c.requires s.blames s.counted s.told);
       ran = λ place K k. ran_gave _ _ _ _ K _ _ place _ c.in-Ok.outcome _
           (world (g.L.Sink.written c.args.log.now) (g.M.Sink.written c.args.mail.now) (g.O.Sink.written c.args.out.now) (store_of (g.F.Files.stored c.serve_one-served.new.files) (g.T.Tables.stored c.serve_one-served.new.tables)) c.serve_one-served.new.calls.made)
-          _ refl (e.gave _ _ _ _)
+          _ refl c.in-Ok.ensures.lawful (e.gave _ _ _ _)
           (c.in-Ok.ensures.served K (subst (λ (x : Calls). Later x.made x.failed K) e.same.2 k)) refl (ap (λ (x : Calls). x.made) e.same.2);
       number = e.number;
       cause = e.cause;
