@@ -13,6 +13,7 @@ use Rattle.resin_machine.specs.declared.stop.Stop.TheVariants.{Fault, Memory}
 use Rattle.resin_machine.specs.State.{State}
 use Rattle.resin_machine.specs.Keeping.{Keeps, Tied}
 use Rattle.resin_machine.specs.Steps.{Act, Acts, ActsLoosely, faults}
+use Rattle.resin_machine.proofs.Kept.{grown_same}
 use Rattle.resin_machine.specs.Leaving.{on_stage, open_buffer, last_buffer, close_buffer, buffer, text_stop}
 
 closed_is : (rest : List Text) (t : Text) → outer_buffers (rest ++ t ∷ []) ≡ rest
@@ -38,7 +39,7 @@ buffers_keep m bs = record {
   request = refl;
   open_calls = refl;
   checking = refl;
-  calm = λ t. record { journal = refl; writes = refl; status = refl; headers = refl; body = refl; mail = refl };
+  calm = λ t. record { grown = grown_same m.stage.journal m.stage.journal refl; journal = refl; writes = refl; status = refl; headers = refl; body = refl; mail = refl };
 }
 
 buffers_tied : (m : State) (bs : List Text) → Tied m → Tied (with_buffers m bs)

@@ -1,12 +1,20 @@
 -- What steps keep.
-use Rattle.std.proofs.Common.{◌≡◌, length, false, true, refl, sym, ap, subst, ◌∙◌, IsTrue}
+use Rattle.std.proofs.Common.{◌≡◌, [], ◌++◌, append-nil, append_assoc, length, false, true, refl, sym, ap, subst, ◌∙◌, IsTrue}
+use Rattle.resin_journal.specs.Events.{EventList}
 use Rattle.resin_stage.specs.Ties.{IsTied}
 use Rattle.resin_stage.specs.Stages.{Stage}
 use Rattle.resin_machine.specs.State.{State}
-use Rattle.resin_machine.specs.Keeping.{Keeps, IsCalm, IsInside, Tied, leaving}
+use Rattle.resin_machine.specs.Keeping.{Keeps, HasGrown, IsCalm, IsInside, Tied, leaving}
+
+pub grown_same : (j k : EventList) → k ≡ j → HasGrown j k
+grown_same j k e = ([], e ∙ sym (append-nil j))
+
+grown_then : (i j k : EventList) → HasGrown i j → HasGrown j k → HasGrown i k
+grown_then i j k (a, e) (b, f) = (a ++ b, f ∙ (ap (λ (l : EventList). l ++ b) e ∙ append_assoc i a b))
 
 calm_same : (m m' : State) → m'.stage ≡ m.stage → IsCalm m m'
 calm_same m m' e = record {
+  grown = grown_same m.stage.journal m'.stage.journal (ap (λ (s : Stage). s.journal) e);
   journal = ap (λ (s : Stage). leaving s.journal) e;
   writes = ap (λ (s : Stage). s.writes) e;
   status = ap (λ (s : Stage). s.status) e;
@@ -17,6 +25,7 @@ calm_same m m' e = record {
 
 calm_then : (u v w : State) → IsCalm u v → IsCalm v w → IsCalm u w
 calm_then u v w a b = record {
+  grown = grown_then u.stage.journal v.stage.journal w.stage.journal a.grown b.grown;
   journal = b.journal ∙ a.journal;
   writes = b.writes ∙ a.writes;
   status = b.status ∙ a.status;

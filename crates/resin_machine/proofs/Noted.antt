@@ -53,7 +53,7 @@ outside_acts m m0 m' e e0 er es zero quiet =
         request = refl;
         open_calls = refl;
         checking = refl;
-        calm = λ t. record { journal = leaving_outside m.stage.journal e zero; writes = refl; status = refl; headers = refl; body = refl; mail = refl };
+        calm = λ t. record { grown = (e ∷ [], refl); journal = leaving_outside m.stage.journal e zero; writes = refl; status = refl; headers = refl; body = refl; mail = refl };
       };
       ties = λ ne t. tied_noted m.request e m.stage quiet t;
     })

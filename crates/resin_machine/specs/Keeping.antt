@@ -1,5 +1,5 @@
 -- What every step of an evaluation leaves as it was.
-use Rattle.std.specs.Prelude.{◌≡◌, length, IsTrue, filter, nat_lt}
+use Rattle.std.specs.Prelude.{◌≡◌, ◌++◌, length, IsTrue, filter, nat_lt}
 use Rattle.resin_journal.specs.Events.{EventList}
 use Rattle.resin_journal.specs.Access.{write_of}
 use Rattle.resin_stage.specs.Ties.{IsTied}
@@ -9,8 +9,13 @@ use Rattle.resin_machine.specs.State.{State}
 abbrev pub leaving : EventList → EventList
 leaving j = filter (λ e. nat_lt 0 (write_of e)) j
 
--- nothing leaves: no event of a write comes, no number is drawn, and the answer under way stays
+-- the journal only grew: what it held is its front
+abbrev pub HasGrown : EventList → EventList → Type 0
+HasGrown old new = (more : EventList) × (new ≡ old ++ more)
+
+-- nothing leaves: the journal grows by no event of a write, no number is drawn, and the answer under way stays
 pub record IsCalm (m m' : State) : Type 0 where
+  pub grown : HasGrown m.stage.journal m'.stage.journal
   pub journal : leaving m'.stage.journal ≡ leaving m.stage.journal
   pub writes : m'.stage.writes ≡ m.stage.writes
   pub status : m'.stage.status ≡ m.stage.status

@@ -27,7 +27,7 @@ quiet = record {
     request = k.request;
     open_calls = k.open_calls;
     checking = refl;
-    calm = λ t. let c = k.calm refl in record { journal = c.journal; writes = c.writes; status = c.status; headers = c.headers; body = c.body; mail = c.mail };
+    calm = λ t. let c = k.calm refl in record { grown = c.grown; journal = c.journal; writes = c.writes; status = c.status; headers = c.headers; body = c.body; mail = c.mail };
   };
   enters = λ m t. t;
   ties = λ m m' t. t;
@@ -41,7 +41,7 @@ lined n = record {
     request = k.request;
     open_calls = k.open_calls;
     checking = k.checking;
-    calm = λ t. let c = k.calm t in record { journal = c.journal; writes = c.writes; status = c.status; headers = c.headers; body = c.body; mail = c.mail };
+    calm = λ t. let c = k.calm t in record { grown = c.grown; journal = c.journal; writes = c.writes; status = c.status; headers = c.headers; body = c.body; mail = c.mail };
   };
   enters = λ m t. t;
   ties = λ m m' t. t;
@@ -59,7 +59,7 @@ calling class = record {
     request = k.request;
     open_calls = outer_length m'.frames.calls (length m.frames.calls) k.open_calls;
     checking = k.checking;
-    calm = λ t. let c = k.calm t in record { journal = c.journal; writes = c.writes; status = c.status; headers = c.headers; body = c.body; mail = c.mail };
+    calm = λ t. let c = k.calm t in record { grown = c.grown; journal = c.journal; writes = c.writes; status = c.status; headers = c.headers; body = c.body; mail = c.mail };
   };
   enters = λ m t. t;
   ties = λ m m' t. t;

@@ -64,7 +64,7 @@ pub record NoneFailed (w w' : World) : Type 0 where
   pub files : w'.files.faults ≡ w.files.faults
   pub tables : w'.tables.faults ≡ w.tables.faults
 
--- the last call failed, and no other, and the count of its keeper rose
+-- the last call failed, and no other, and the count of faults of one keeper rose, the other being as it was
 pub record LastFailed (w w' : World) : Type 0 where
   pub failed : w'.calls.failed ≡ w.calls.failed ++ w'.calls.made ∷ []
   pub made : w.calls.made < w'.calls.made
