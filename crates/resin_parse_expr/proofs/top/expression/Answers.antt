@@ -1,4 +1,4 @@
-use Rattle.std.proofs.Common.{◌≡◌, suc, ◌-◌, length, drop, Err, subst, rules}
+use Rattle.std.proofs.Common.{◌≡◌, ◌≤◌, arith, suc, ◌-◌, length, drop, Err, subst, rules}
 use Rattle.resin_form.specs.declared.fault.Fault.TheVariants.{Syntax}
 use Rattle.resin_grammar.specs.Reading.{Gives}
 use Rattle.resin_parse_expr.specs.Answers.{place_of}
@@ -10,8 +10,11 @@ returns-in-Ok c =
     let from : c.from_index-tokens.result ≡ drop c.args.at c.args.t.now.tokens = search rules in
     let count : c.saturating_sub-next.result ≡ length c.args.t.now.tokens - length c.read_expression-found.new.tokens = search rules in
     let same : c.into_inner.result ≡ c.in-Ok.tree = search rules in
-    tree_at c.args.t.now.tokens c.from_index-tokens.result c.read_expression-found.new.tokens c.args.at c.saturating_sub-next.result (suc (200 - c.args.around)) from count
-    c.in-Ok.tree c.into_inner.result same c.in-Ok.ensures.gives
+    let within : c.saturating_sub-next.result ≤ length c.args.t.now.tokens = omega (count, arith) in (
+      within,
+      tree_at c.args.t.now.tokens c.from_index-tokens.result c.read_expression-found.new.tokens c.args.at c.saturating_sub-next.result (suc (200 - c.args.around)) from count
+          c.in-Ok.tree c.into_inner.result same c.in-Ok.ensures.gives,
+    )
 
 pub returns-in-Err-Syntax : goal.returns-in-Err-Syntax
 returns-in-Err-Syntax c =
