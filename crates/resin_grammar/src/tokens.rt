@@ -85,7 +85,7 @@ pub fn name_of(alloc: Global, kind: &TokenKind) -> Result<SharedBytes, AllocErro
     ensures { IfOk result (λ n. n ≡ spec.name_of kind.now) }
 {
     match kind {
-        TokenKind::Name(name) => name.clone(),
+        TokenKind::Name(name) => name.bytes(),
         TokenKind::Variable(name) => name.clone(),
         _ => SharedBytes::from_slice(alloc, b""),
     }

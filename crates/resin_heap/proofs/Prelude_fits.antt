@@ -1,6 +1,11 @@
 -- The classes of the runtime fit together: no name stands twice, and each parent stands before its children.
 use Rattle.std.proofs.Common.{◌≡◌, ℕ, zero, suc, ◌<◌, [], ◌∷◌, ◌++◌, length, map, take, slice_get, subst, refl, Some, None, lit<}
+use Rattle.std.specs.Prelude.{Bool, true, false, ◌&&◌, List, codes}
+use Rattle.std.specs.List.{list_all}
 use Rattle.std.specs.Option.{option_map}
+use Rattle.resin_scan.specs.Bytes.{is_name_byte}
+use Rattle.resin_scan.specs.Lists.{Every}
+use Rattle.resin_scan.specs.Words.{IsName}
 use Rattle.resin_heap.specs.declared.prelude.PreludeClass.{PreludeClass}
 use Rattle.resin_heap.specs.declared.prelude.PreludeClass.TheVariants.{Throwable, Exception, Error, ArithmeticError, TypeError, ValueError, DivisionByZeroError, ArgumentCountError, PolicyException, SqlException, Policy, NoExport, Filter}
 use Rattle.resin_heap.specs.Classes.{find_class, parent_in}
@@ -46,3 +51,31 @@ few_methods SqlException = lit< tt
 few_methods Policy = lit< tt
 few_methods NoExport = lit< tt
 few_methods Filter = lit< tt
+
+-- each class of the runtime has a name
+first_true : (a b : Bool) → (a && b) ≡ true → a ≡ true
+first_true true b h = refl
+first_true false b h = cc
+
+second_true : (a b : Bool) → (a && b) ≡ true → b ≡ true
+second_true true b h = h
+second_true false b h = cc
+
+every_byte : (bs : List ℕ) → list_all is_name_byte bs ≡ true → Every is_name_byte bs
+every_byte [] h = tt
+every_byte (b ∷ bs) h = (first_true _ _ h, every_byte bs (second_true _ _ h))
+
+pub is_named : (c : PreludeClass) → IsName (name_of c)
+is_named Throwable = (refl, every_byte (codes "hrowable") refl)
+is_named Exception = (refl, every_byte (codes "xception") refl)
+is_named Error = (refl, every_byte (codes "rror") refl)
+is_named ArithmeticError = (refl, every_byte (codes "rithmeticError") refl)
+is_named TypeError = (refl, every_byte (codes "ypeError") refl)
+is_named ValueError = (refl, every_byte (codes "alueError") refl)
+is_named DivisionByZeroError = (refl, every_byte (codes "ivisionByZeroError") refl)
+is_named ArgumentCountError = (refl, every_byte (codes "rgumentCountError") refl)
+is_named PolicyException = (refl, every_byte (codes "olicyException") refl)
+is_named SqlException = (refl, every_byte (codes "qlException") refl)
+is_named Policy = (refl, every_byte (codes "olicy") refl)
+is_named NoExport = (refl, every_byte (codes "oExport") refl)
+is_named Filter = (refl, every_byte (codes "ilter") refl)

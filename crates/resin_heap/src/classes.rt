@@ -1,5 +1,6 @@
 //! Classes, by their numbers.
 ghost use Rattle.std.specs.Prelude.{◌≡◌, ◌+◌, ◌<◌, ◌++◌, ◌∷◌, [], ◌↔◌, Some, None, Err, IfOk, IfErr, IfSome, IsSome, IsTrue, OnOk, OnErr, length, reverse, slice_get};
+ghost use Rattle.resin_scan.specs.Words.{IsName};
 ghost use Rattle.resin_heap.specs.Classes.{class_names, find_class, parent_in, parent_of, is_a, line, method_of, function_at, NamesNoParent};
 ghost use Rattle.std.specs.Option.{option_map};
 ghost use Rattle.resin_heap.specs.Prelude.{prelude, StartsWithPrelude, number_of, name_of, parent_class, declaration_of};
@@ -166,7 +167,8 @@ impl Classes {
     /// The name of a class, as it is written in its declaration.
     pub fn class_name(&self, c: u32) -> &[u8]
         requires { c < length self.now }
-        ensures { slice_get (class_names self.now) c ≡ Some result.now }
+        ensures value { slice_get (class_names self.now) c ≡ Some result.now }
+        ensures name { IsName result.now }
     {
         self.declaration(c).name.as_slice()
     }
@@ -250,7 +252,7 @@ fn add(
     ensures err { OnErr result (table.new.entries ≡ table.old.entries) }
 {
     let class = Class::new(alloc, c, parent)?;
-    table.insert(CaselessName::kept(c.name.clone()?), class)?;
+    table.insert(CaselessName::kept(c.name.bytes()?), class)?;
     Ok(())
 }
 

@@ -1,11 +1,12 @@
 //! The classes that every script finds declared.
 ghost use Rattle.std.specs.Prelude.{◌≡◌, [], ◌∷◌, None, map, slice_get, IfOk};
 ghost use Rattle.std.specs.Option.{option_map};
+ghost use Rattle.resin_scan.specs.Words.{IsName};
 ghost use Rattle.resin_heap.specs.Prelude.{name_of, parent_class, number_of, method_name, methods_of_class, parameters_of, parameter_of, property_of, properties_of_exceptions, text, zero_constant, function_of, properties_of_class, declaration_of, prelude_method_at, all_classes};
 
 use crate::classes::MethodAt;
 use resin_items::{Items, Shared, SharedBytes};
-use resin_tree::{ClassDecl, Constant, Function, Literal, Parameter, Property};
+use resin_tree::{ClassDecl, Constant, Function, Literal, Name, Parameter, Property};
 use std::alloc::{AllocError, Global};
 
 /// A class of the runtime. Its number is its place in this list.
@@ -90,8 +91,10 @@ impl PreludeClass {
     }
 
     /// The name.
+    #[tactic(auto, using(crate::proofs::Prelude_fits::is_named))]
     pub fn name(self) -> &'static str
-        ensures { result.now ≡ name_of self }
+        ensures value { result.now ≡ name_of self }
+        ensures name { IsName result.now }
     {
         match self {
             PreludeClass::Throwable => "Throwable",
@@ -166,7 +169,7 @@ impl PreludeClass {
     {
         Ok(ClassDecl {
             line: 0,
-            name: SharedBytes::from_slice(alloc, self.name().as_bytes())?,
+            name: Name::new(SharedBytes::from_slice(alloc, self.name().as_bytes())?),
             parent: parent_name(alloc, self.parent())?,
             properties: Shared::new(alloc, self.properties(alloc)?)?,
             methods: Shared::new(alloc, functions(alloc, self.methods())?)?,

@@ -1,22 +1,29 @@
 //! Classes and objects as the PHP 8 manual has them ("Object Inheritance", "Classes and Objects", "Predefined Exceptions"), and the classes of this project.
+ghost use Rattle.resin_scan.specs.Words.{IsName};
 
 use crate::{
     ClassFault, Classes, Heap, MOST_CLASSES, MOST_METHODS, MOST_OBJECTS, MethodAt, PreludeClass,
     PreludeMethod, class_laws, object_laws,
 };
 use resin_label::PSet;
-use resin_tree::{ClassDecl, Function, Items, Shared, SharedBytes};
+use resin_tree::{ClassDecl, Function, Items, Name, Shared, SharedBytes};
 use resin_value::Value;
-use std::alloc::Global;
+use std::alloc::{AllocError, Global};
 use std::process::Abort;
 use std::test::Fail;
 
-/// A class to declare: its name, its parent and its methods.
-type Sample = (&'static str, Option<&'static str>, &'static [&'static str]);
+/// What is below a class's name: its parent and its methods.
+type Sample = (Option<&'static str>, &'static [&'static str]);
 
-fn declaration(alloc: Global, sample: &Sample) -> Result<ClassDecl, Fail> {
+fn name(alloc: Global, bytes: &[u8]) -> Result<Name, AllocError>
+    requires { IsName bytes.now }
+{
+    Ok(Name::new(SharedBytes::from_slice(alloc, bytes)?))
+}
+
+fn declaration(alloc: Global, name: &Name, sample: &Sample) -> Result<ClassDecl, Fail> {
     let mut methods = Items::new(alloc);
-    for name in sample.2 {
+    for name in sample.1 {
         methods.push(Function {
             line: 1,
             name: SharedBytes::from_slice(alloc, name.as_bytes())?,
@@ -24,13 +31,13 @@ fn declaration(alloc: Global, sample: &Sample) -> Result<ClassDecl, Fail> {
             body: Shared::new(alloc, Items::new(alloc))?,
         })?;
     }
-    let parent = match sample.1 {
+    let parent = match sample.0 {
         Some(name) => Some(SharedBytes::from_slice(alloc, name.as_bytes())?),
         None => None,
     };
     Ok(ClassDecl {
         line: 1,
-        name: SharedBytes::from_slice(alloc, sample.0.as_bytes())?,
+        name: name.clone()?,
         parent,
         properties: Shared::new(alloc, Items::new(alloc))?,
         methods: Shared::new(alloc, methods)?,
@@ -48,15 +55,15 @@ fn declare(classes: &mut Classes, c: &ClassDecl) -> Result<u32, ClassFault> {
 
 /// The classes of the runtime, and `Animal`, `Dog` under it, `Puppy` under that, and `Mine` under `NoExport`.
 fn family(alloc: Global) -> Result<Classes, Fail> {
-    let samples: [Sample; 4] = [
-        ("Animal", None, &["speak", "eat", "EAT"]),
-        ("Dog", Some("animal"), &["Speak", "fetch"]),
-        ("Puppy", Some("DOG"), &[]),
-        ("Mine", Some("noexport"), &["merge"]),
+    let samples: [(Name, Sample); 4] = [
+        (name(alloc, b"Animal")?, (None, &["speak", "eat", "EAT"])),
+        (name(alloc, b"Dog")?, (Some("animal"), &["Speak", "fetch"])),
+        (name(alloc, b"Puppy")?, (Some("DOG"), &[])),
+        (name(alloc, b"Mine")?, (Some("noexport"), &["merge"])),
     ];
     let mut classes = Classes::new(alloc)?;
-    for sample in &samples {
-        declare(&mut classes, &declaration(alloc, sample)?)?;
+    for (name, sample) in &samples {
+        declare(&mut classes, &declaration(alloc, name, sample)?)?;
     }
     Ok(classes)
 }
@@ -143,16 +150,24 @@ fn names_ignore_case(rt: HostRuntime) -> Result<(), Fail> {
 fn refusals_have_their_causes(rt: HostRuntime) -> Result<(), Fail> {
     let alloc = rt.alloc();
     let mut classes = family(alloc)?;
-    let rows: [(Sample, Result<u32, ClassFault>); 6] = [
-        (("Policy", None, &[]), Err(ClassFault::Redeclared)),
-        (("dOG", None, &[]), Err(ClassFault::Redeclared)),
-        (("Dog", Some("Nobody"), &[]), Err(ClassFault::Redeclared)),
-        (("Cat", Some("Nobody"), &[]), Err(ClassFault::NoParent)),
-        (("Cat", Some("Cat"), &[]), Err(ClassFault::NoParent)),
-        (("Cat", Some("Throwable"), &[]), Ok(17)),
+    let rows: [(Name, Option<&'static str>, Result<u32, ClassFault>); 6] = [
+        (name(alloc, b"Policy")?, None, Err(ClassFault::Redeclared)),
+        (name(alloc, b"dOG")?, None, Err(ClassFault::Redeclared)),
+        (
+            name(alloc, b"Dog")?,
+            Some("Nobody"),
+            Err(ClassFault::Redeclared),
+        ),
+        (
+            name(alloc, b"Cat")?,
+            Some("Nobody"),
+            Err(ClassFault::NoParent),
+        ),
+        (name(alloc, b"Cat")?, Some("Cat"), Err(ClassFault::NoParent)),
+        (name(alloc, b"Cat")?, Some("Throwable"), Ok(17)),
     ];
-    for (sample, answer) in &rows {
-        let declared = declare(&mut classes, &declaration(alloc, sample)?);
+    for (name, parent, answer) in &rows {
+        let declared = declare(&mut classes, &declaration(alloc, name, &(*parent, &[]))?);
         assert_eq!(rt; declared, *answer);
     }
     assert_eq!(rt; classes.len(), 18);

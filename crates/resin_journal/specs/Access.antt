@@ -3,6 +3,7 @@
 use Rattle.std.specs.Prelude.{ℕ, ◌<◌, ◌==◌, ◌&&◌, nat_lt, nat_le, nat_eq, not, Bool, true, false, List, [], ◌∷◌, filter, map, IsTrue, if◌then◌else◌}
 use Rattle.std.specs.List.{list_all, list_any}
 use Rattle.std.specs.Cmp.Lexicographic.{pointwise}
+use Rattle.resin_scan.specs.Words.{IsName}
 use Rattle.resin_lstr.specs.Texts.{policies_in_order}
 use Rattle.resin_journal.specs.declared.event.Event.{Event}
 use Rattle.resin_journal.specs.declared.event.Event.TheVariants.{Passed, Sent, Denied, FilterDenied}
@@ -73,3 +74,14 @@ pub record ObeysAccessLaw (j : EventList) : Type 0 where
   pub placed : IsTrue (list_all is_placed j)
   pub checked : (w : ℕ) → 0 < w → IsTrue (is_one_write (events_of w j))
   pub in_order : IsTrue (never_fall (writes_of j))
+
+-- the classes that an event tells are names
+abbrev pub TellsNames : Event → Type 0
+TellsNames (Denied w c p class from to by) = IsName class × IsName by
+TellsNames (FilterDenied w c f class len by) = IsName class × IsName by
+TellsNames e = Unit {0}
+
+-- each class that the journal tells is a name
+abbrev pub ClassesAreNames : EventList → Type 0
+ClassesAreNames [] = Unit {0}
+ClassesAreNames (e ∷ es) = TellsNames e × ClassesAreNames es

@@ -1,10 +1,11 @@
 -- What stands first in a text, as a function.
-use Rattle.std.specs.Prelude.{◌≤◌, ◌<◌, ℕ, ◌+◌, pos, false, not, ◌&&◌, ◌==◌, List, take, drop, Option, Some, None, if◌then◌else◌}
+use Rattle.std.specs.Prelude.{◌≤◌, ◌<◌, ℕ, ◌+◌, pos, false, not, ◌&&◌, ◌==◌, List, length, take, drop, Option, Some, None, if◌then◌else◌}
 use Rattle.std.specs.List.{prefix_len}
 use Rattle.resin_scan.specs.Bytes.{byte, is_blank, is_digit, begins_name, is_name_byte, is_word_byte}
 use Rattle.resin_scan.specs.Numbers.{integer, is_prefixed}
 use Rattle.resin_scan.specs.Stretches.{is_echo_tag, is_php_tag, newline_len, blank_len, reach}
 use Rattle.resin_scan.specs.declared.stretches.Stop.TheVariants as stop
+use Rattle.resin_scan.specs.Words.{IsName}
 use Rattle.resin_scan.specs.declared.words.Cast.{Cast}
 use Rattle.resin_lex.specs.Casts.{cast_behind}
 use Rattle.resin_lex.specs.declared.modes.Open.{Open}
@@ -13,6 +14,7 @@ use Rattle.resin_lex.specs.declared.modes.Act.{Act}
 use Rattle.resin_lex.specs.declared.modes.Act.TheVariants.{Stay, Enter, Leave}
 use Rattle.resin_lex.specs.declared.modes.Step.{Step}
 use Rattle.resin_lex.specs.declared.modes.Step.TheVariants.{Token, Skip, Fault}
+use Rattle.resin_lex.specs.declared.modes.Shape.{Shape}
 use Rattle.resin_lex.specs.declared.modes.Shape.TheVariants as s
 use Rattle.resin_lex.specs.declared.token.Mark.{Mark}
 use Rattle.resin_lex.specs.declared.token.Mark.TheVariants as m
@@ -173,8 +175,13 @@ first (Some (Quote place)) at xs = first_in_quotes place xs
 first (Some (Index place)) at xs = first_index xs
 first (Some (Property place)) at xs = first_property xs
 
--- A step goes on, and not past the end.
-abbrev pub Moves : ℕ → Step → Type 0
-Moves len Fault = Unit {0}
-Moves len (Skip n act) = (0 < n) × (n ≤ len)
-Moves len (Token shape n act) = (0 < n) × (n ≤ len)
+-- The bytes of a word are a name.
+abbrev pub Spells : Shape → List ℕ → Type 0
+Spells s.Word xs = IsName xs
+Spells _ xs = Unit {0}
+
+-- A step goes on, and not past the end. A word that it finds is a name.
+abbrev pub Moves : List ℕ → Step → Type 0
+Moves xs Fault = Unit {0}
+Moves xs (Skip n act) = (0 < n) × (n ≤ length xs)
+Moves xs (Token shape n act) = (0 < n) × ((n ≤ length xs) × Spells shape (take n xs))

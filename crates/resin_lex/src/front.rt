@@ -31,7 +31,7 @@ pub fn blamed(top: Option<Open>, at: u32) -> u32
 fn first_outside(s: &[u8]) -> Step
     requires { 0 < length s.now }
     ensures is { result ≡ spec.first_outside s.now }
-    ensures moves { Moves (length s.now) result }
+    ensures moves { Moves s.now result }
 {
     if is_echo_tag(s) {
         Step::Token(Shape::EchoTag, 3, Act::Leave)
@@ -42,12 +42,12 @@ fn first_outside(s: &[u8]) -> Step
     }
 }
 
-#[tactic(auto, unfolding(crate::specs::First::first_word))]
+#[tactic(auto, unfolding(crate::specs::First::first_word), using(crate::proofs::CodeSound::name_there))]
 fn first_word(s: &[u8]) -> Step
     requires some { 0 < length s.now }
     requires begins { begins_name (get_or s.now 0 0) ≡ true }
     ensures is { result ≡ spec.first_word s.now }
-    ensures moves { Moves (length s.now) result }
+    ensures moves { Moves s.now result }
 {
     Step::Token(Shape::Word, name_len(s), Act::Stay)
 }
@@ -57,7 +57,7 @@ fn first_number(s: &[u8]) -> Step
     requires some { 0 < length s.now }
     requires begins { is_digit (get_or s.now 0 0) ≡ true }
     ensures is { result ≡ spec.first_number s.now }
-    ensures moves { Moves (length s.now) result }
+    ensures moves { Moves s.now result }
 {
     let n = word_len(s);
     if byte(s, n) == b'.' && !is_prefixed(&s[..n]) {
@@ -90,7 +90,7 @@ fn cast_len(s: &[u8]) -> Option<(Cast, usize)>
 fn first_round(s: &[u8]) -> Step
     requires { 0 < length s.now }
     ensures is { result ≡ spec.first_round s.now }
-    ensures moves { Moves (length s.now) result }
+    ensures moves { Moves s.now result }
 {
     match cast_len(&s[1..]) {
         Some((cast, n)) => Step::Token(Shape::Cast(cast), 1 + n, Act::Stay),
@@ -101,7 +101,7 @@ fn first_round(s: &[u8]) -> Step
 fn comment(s: &[u8]) -> Step
     requires { 0 < length s.now }
     ensures is { result ≡ spec.comment s.now }
-    ensures moves { Moves (length s.now) result }
+    ensures moves { Moves s.now result }
 {
     Step::Skip(1 + reach(Stop::Line, &s[1..]), Act::Stay)
 }
@@ -110,7 +110,7 @@ fn comment(s: &[u8]) -> Step
 fn first_hash(s: &[u8]) -> Step
     requires { 0 < length s.now }
     ensures is { result ≡ spec.first_hash s.now }
-    ensures moves { Moves (length s.now) result }
+    ensures moves { Moves s.now result }
 {
     if byte(s, 1) == b'[' {
         Step::Fault
@@ -123,7 +123,7 @@ fn first_hash(s: &[u8]) -> Step
 fn block_comment(s: &[u8]) -> Step
     requires { 1 < length s.now }
     ensures is { result ≡ spec.block_comment s.now }
-    ensures moves { Moves (length s.now) result }
+    ensures moves { Moves s.now result }
 {
     let n = reach(Stop::Comment, &s[2..]);
     if byte(s, 3 + n) == b'/' {
@@ -137,7 +137,7 @@ fn block_comment(s: &[u8]) -> Step
 fn first_slash(s: &[u8]) -> Step
     requires { 0 < length s.now }
     ensures is { result ≡ spec.first_slash s.now }
-    ensures moves { Moves (length s.now) result }
+    ensures moves { Moves s.now result }
 {
     match byte(s, 1) {
         b'/' => comment(s),
@@ -151,7 +151,7 @@ fn first_slash(s: &[u8]) -> Step
 fn first_tag_or_question(s: &[u8]) -> Step
     requires { 0 < length s.now }
     ensures is { result ≡ spec.first_tag_or_question s.now }
-    ensures moves { Moves (length s.now) result }
+    ensures moves { Moves s.now result }
 {
     if byte(s, 1) == b'>' {
         Step::Token(
@@ -168,7 +168,7 @@ fn first_tag_or_question(s: &[u8]) -> Step
 fn first_single(s: &[u8]) -> Step
     requires { 0 < length s.now }
     ensures is { result ≡ spec.first_single s.now }
-    ensures moves { Moves (length s.now) result }
+    ensures moves { Moves s.now result }
 {
     let n = reach(Stop::Single, &s[1..]);
     if byte(s, 1 + n) == b'\'' {
@@ -182,7 +182,7 @@ fn first_single(s: &[u8]) -> Step
 fn first_double(at: u32, s: &[u8]) -> Step
     requires { 0 < length s.now }
     ensures is { result ≡ spec.first_double at s.now }
-    ensures moves { Moves (length s.now) result }
+    ensures moves { Moves s.now result }
 {
     let n = reach(Stop::Part, &s[1..]);
     if byte(s, 1 + n) == b'"' {
@@ -196,7 +196,7 @@ fn first_double(at: u32, s: &[u8]) -> Step
 fn first_variable(s: &[u8]) -> Step
     requires { 0 < length s.now }
     ensures is { result ≡ spec.first_variable s.now }
-    ensures moves { Moves (length s.now) result }
+    ensures moves { Moves s.now result }
 {
     if begins_name(byte(s, 1)) {
         Step::Token(Shape::Variable, 1 + name_len(&s[1..]), Act::Stay)
@@ -209,7 +209,7 @@ fn first_variable(s: &[u8]) -> Step
 fn first_sign(at: u32, s: &[u8]) -> Step
     requires { 0 < length s.now }
     ensures is { result ≡ spec.first_sign at s.now }
-    ensures moves { Moves (length s.now) result }
+    ensures moves { Moves s.now result }
 {
     match byte(s, 0) {
         b'$' => first_variable(s),
@@ -229,7 +229,7 @@ fn first_sign(at: u32, s: &[u8]) -> Step
 fn first_in_code(at: u32, s: &[u8]) -> Step
     requires { 0 < length s.now }
     ensures is { result ≡ spec.first_in_code at s.now }
-    ensures moves { Moves (length s.now) result }
+    ensures moves { Moves s.now result }
 {
     let b = byte(s, 0);
     if begins_name(b) {
@@ -260,7 +260,7 @@ fn opened_behind(place: u32, s: &[u8]) -> Act
 fn quoted_variable(place: u32, s: &[u8]) -> Step
     requires { 0 < length s.now }
     ensures is { result ≡ spec.quoted_variable place s.now }
-    ensures moves { Moves (length s.now) result }
+    ensures moves { Moves s.now result }
 {
     let n = 1 + name_len(&s[1..]);
     Step::Token(Shape::Variable, n, opened_behind(place, &s[n..]))
@@ -270,7 +270,7 @@ fn quoted_variable(place: u32, s: &[u8]) -> Step
 fn quoted_stretch(s: &[u8]) -> Step
     requires { 0 < length s.now }
     ensures is { result ≡ spec.quoted_stretch s.now }
-    ensures moves { Moves (length s.now) result }
+    ensures moves { Moves s.now result }
 {
     let n = reach(Stop::Part, s);
     if n == 0 {
@@ -284,7 +284,7 @@ fn quoted_stretch(s: &[u8]) -> Step
 fn first_in_quotes(place: u32, s: &[u8]) -> Step
     requires { 0 < length s.now }
     ensures is { result ≡ spec.first_in_quotes place s.now }
-    ensures moves { Moves (length s.now) result }
+    ensures moves { Moves s.now result }
 {
     let a = byte(s, 0);
     let b = byte(s, 1);
@@ -323,7 +323,7 @@ fn key_len(s: &[u8]) -> usize
 fn first_index(s: &[u8]) -> Step
     requires { 0 < length s.now }
     ensures is { result ≡ spec.first_index s.now }
-    ensures moves { Moves (length s.now) result }
+    ensures moves { Moves s.now result }
 {
     if byte(s, 0) != b'[' {
         return Step::Fault;
@@ -342,7 +342,7 @@ fn first_index(s: &[u8]) -> Step
 fn first_property(s: &[u8]) -> Step
     requires { 0 < length s.now }
     ensures is { result ≡ spec.first_property s.now }
-    ensures moves { Moves (length s.now) result }
+    ensures moves { Moves s.now result }
 {
     if byte(s, 0) == b'-' && byte(s, 1) == b'>' && begins_name(byte(s, 2)) {
         Step::Token(Shape::Property, 2 + name_len(&s[2..]), Act::Leave)
@@ -355,7 +355,7 @@ fn first_property(s: &[u8]) -> Step
 pub fn first_of(top: Option<Open>, at: u32, s: &[u8]) -> Step
     requires { 0 < length s.now }
     ensures is { result ≡ spec.first top at s.now }
-    ensures moves { Moves (length s.now) result }
+    ensures moves { Moves s.now result }
 {
     match top {
         None | Some(Open::Brace) => first_in_code(at, s),

@@ -2,6 +2,8 @@
 
 ghost use Rattle.std.specs.Prelude.{◌≡◌, ◌<◌, IfOk};
 ghost use Rattle.resin_lex.specs.Kinds as spec;
+ghost use Rattle.resin_lex.specs.First.{Spells};
+ghost use Rattle.resin_scan.specs.Words.{IsName};
 ghost use Rattle.resin_scan.specs.Escapes.{worked as worked_of};
 
 use crate::modes::Shape;
@@ -11,6 +13,7 @@ use resin_scan::Keyword;
 use resin_scan::bytes::byte;
 use resin_scan::escapes::{Quoting, worked};
 use resin_scan::keywords::keyword_of;
+use resin_tree::Name;
 use std::alloc::{AllocError, Global};
 
 /// A text without so many bytes in front and so many behind.
@@ -35,11 +38,12 @@ fn text(alloc: Global, quoting: Quoting, s: &[u8]) -> Result<SharedBytes, AllocE
 }
 
 fn word_kind(alloc: Global, s: &[u8]) -> Result<TokenKind, AllocError>
+    requires { IsName s.now }
     ensures { IfOk result (λ kind. kind ≡ spec.word_kind s.now) }
 {
     match keyword_of(s) {
         Some(keyword) => Ok(TokenKind::Keyword(keyword)),
-        None => Ok(TokenKind::Name(SharedBytes::from_slice(alloc, s)?)),
+        None => Ok(TokenKind::Name(Name::new(SharedBytes::from_slice(alloc, s)?))),
     }
 }
 
@@ -53,8 +57,9 @@ fn index_kind(alloc: Global, s: &[u8]) -> Result<TokenKind, AllocError>
     }
 }
 
-/// The kind of a token of this shape that these bytes spell.
+/// The kind of a token of this shape that these bytes spell. A word is a name.
 pub fn kind_of(alloc: Global, shape: Shape, s: &[u8]) -> Result<TokenKind, AllocError>
+    requires { Spells shape s.now }
     ensures { IfOk result (λ kind. kind ≡ spec.kind_of shape s.now) }
 {
     Ok(match shape {

@@ -2,6 +2,7 @@
 
 ghost use Rattle.std.specs.Prelude.{◌≡◌, ◌∷◌, ◌++◌, [], nat_lt, ◌<◌, ◌≤◌, ◌+◌, ◌^◌, ℕ, List, length, MatchResult, IfOk, Option, None};
 ghost use Rattle.std.specs.List.{prefix_len};
+ghost use Rattle.resin_lex.specs.First.{Spells};
 ghost use Rattle.resin_lex.specs.Modes.{innermost, after};
 ghost use Rattle.resin_lex.specs.Reads.{Reads, token_of};
 ghost use Rattle.resin_lex.specs.Lexes.{IsLexed, HasTokens, HasFront, IsRow, before as before_place};
@@ -59,6 +60,7 @@ fn make_token(
 ) -> Result<Token, AllocError>
     requires start { from < 2 ^ 32 }
     requires end { to < 2 ^ 32 }
+    requires word { Spells shape s.now }
     ensures { IfOk result (λ token. token ≡ token_of shape from to s.now) }
 {
     Ok(Token {

@@ -16,8 +16,8 @@ pub use resin_scan::words::Cast;
 pub use resin_tree::{
     Access, ArrayItem, Assignment, Boxed, Branch, Call, Case, Catch, ClassDecl, Combining,
     Comparison, Constant, ConstantItem, ConstantName, Expr, Function, Import, Item, Items, Literal,
-    Loop, Operation, Parameter, PathStep, Program, Property, Shared, SharedBytes, Simple, Stmt,
-    StmtKind, Target, Test, Unary,
+    Loop, Name, Operation, Parameter, PathStep, Program, Property, Shared, SharedBytes, Simple,
+    Stmt, StmtKind, Target, Test, Unary,
 };
 pub use token::{Mark, ParseFault, Token, TokenKind, TokenList, Tokens};
 

@@ -20,7 +20,7 @@ fn pair(s: &[u8], next: u8, long: Mark, short: Mark) -> Step
     requires some { 0 < length s.now }
     requires next { 0 < next }
     ensures is { result ≡ spec.pair s.now next long short }
-    ensures moves { Moves (length s.now) result }
+    ensures moves { Moves s.now result }
 {
     if byte(s, 1) == next {
         mark_step(long, 2)
@@ -34,7 +34,7 @@ fn pair(s: &[u8], next: u8, long: Mark, short: Mark) -> Step
 fn first_equals(s: &[u8]) -> Step
     requires { 0 < length s.now }
     ensures is { result ≡ spec.first_equals s.now }
-    ensures moves { Moves (length s.now) result }
+    ensures moves { Moves s.now result }
 {
     match byte(s, 1) {
         b'=' => {
@@ -54,7 +54,7 @@ fn first_equals(s: &[u8]) -> Step
 fn first_bang(s: &[u8]) -> Step
     requires { 0 < length s.now }
     ensures is { result ≡ spec.first_bang s.now }
-    ensures moves { Moves (length s.now) result }
+    ensures moves { Moves s.now result }
 {
     if byte(s, 1) != b'=' {
         mark_step(Mark::Not, 1)
@@ -70,7 +70,7 @@ fn first_bang(s: &[u8]) -> Step
 fn first_less(s: &[u8]) -> Step
     requires { 0 < length s.now }
     ensures is { result ≡ spec.first_less s.now }
-    ensures moves { Moves (length s.now) result }
+    ensures moves { Moves s.now result }
 {
     match byte(s, 1) {
         b'=' => {
@@ -90,7 +90,7 @@ fn first_less(s: &[u8]) -> Step
 fn first_plus(s: &[u8]) -> Step
     requires { 0 < length s.now }
     ensures is { result ≡ spec.first_plus s.now }
-    ensures moves { Moves (length s.now) result }
+    ensures moves { Moves s.now result }
 {
     match byte(s, 1) {
         b'+' => mark_step(Mark::Increment, 2),
@@ -104,7 +104,7 @@ fn first_plus(s: &[u8]) -> Step
 fn first_minus(s: &[u8]) -> Step
     requires { 0 < length s.now }
     ensures is { result ≡ spec.first_minus s.now }
-    ensures moves { Moves (length s.now) result }
+    ensures moves { Moves s.now result }
 {
     match byte(s, 1) {
         b'-' => mark_step(Mark::Decrement, 2),
@@ -119,7 +119,7 @@ fn first_minus(s: &[u8]) -> Step
 fn first_dot(s: &[u8]) -> Step
     requires { 0 < length s.now }
     ensures is { result ≡ spec.first_dot s.now }
-    ensures moves { Moves (length s.now) result }
+    ensures moves { Moves s.now result }
 {
     if is_digit(byte(s, 1)) {
         Step::Fault
@@ -133,7 +133,7 @@ fn first_dot(s: &[u8]) -> Step
 fn first_and(s: &[u8]) -> Step
     requires { 0 < length s.now }
     ensures is { result ≡ spec.first_and s.now }
-    ensures moves { Moves (length s.now) result }
+    ensures moves { Moves s.now result }
 {
     if byte(s, 1) == b'&' {
         mark_step(Mark::And, 2)
@@ -147,7 +147,7 @@ fn first_and(s: &[u8]) -> Step
 pub fn first_question(s: &[u8]) -> Step
     requires { 0 < length s.now }
     ensures is { result ≡ spec.first_question s.now }
-    ensures moves { Moves (length s.now) result }
+    ensures moves { Moves s.now result }
 {
     if byte(s, 1) != b'?' {
         mark_step(Mark::Question, 1)
@@ -163,7 +163,7 @@ pub fn first_question(s: &[u8]) -> Step
 fn first_operator(s: &[u8]) -> Step
     requires { 0 < length s.now }
     ensures is { result ≡ spec.first_operator s.now }
-    ensures moves { Moves (length s.now) result }
+    ensures moves { Moves s.now result }
 {
     match byte(s, 0) {
         b'=' => first_equals(s),
@@ -187,7 +187,7 @@ fn first_operator(s: &[u8]) -> Step
 pub fn first_mark(s: &[u8]) -> Step
     requires { 0 < length s.now }
     ensures is { result ≡ spec.first_mark s.now }
-    ensures moves { Moves (length s.now) result }
+    ensures moves { Moves s.now result }
 {
     match byte(s, 0) {
         b';' => mark_step(Mark::Semicolon, 1),

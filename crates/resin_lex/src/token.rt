@@ -3,6 +3,7 @@
 use resin_items::{Items, SharedBytes};
 use resin_scan::Keyword;
 use resin_scan::words::Cast;
+use resin_tree::Name;
 use std::alloc::AllocError;
 
 /// An operator or a bracket.
@@ -104,7 +105,7 @@ pub enum TokenKind {
     /// Text outside code.
     Inline(SharedBytes),
     /// A name as it is written.
-    Name(SharedBytes),
+    Name(Name),
     Keyword(Keyword),
     /// `$v`, by its name without the `$`.
     Variable(SharedBytes),

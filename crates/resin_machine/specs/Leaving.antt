@@ -10,6 +10,8 @@ use Rattle.resin_scalar.specs.declared.faults.ScriptFault.TheVariants.{FuelSpent
 use Rattle.resin_scope.specs.Pages.{innermost}
 use Rattle.resin_heap.specs.Classes.{class_names}
 use Rattle.resin_heap.specs.Objects.{class_at}
+use Rattle.resin_heap.specs.Prelude.{name_of}
+use Rattle.resin_heap.specs.declared.prelude.PreludeClass.TheVariants.{Throwable}
 use Rattle.resin_stage.specs.Stages.{Stage, drawn, noted, sent_page, sent_header, sent_status, sent_mail, opened, closed, buffered}
 use Rattle.resin_stage.specs.Writes.{IsOpen, MayAsk, MaySend}
 use Rattle.resin_machine.specs.declared.stop.Stop.{Stop}
@@ -29,9 +31,9 @@ draw m =
     then faults ChannelInCheck m
     else (if nat_lt m.stage.writes (2 ^ 64 - 1) then (Ok (m.stage.writes + 1), on_stage drawn m) else faults FuelSpent m)
 
--- the class of an object, as its name was declared
+-- the class of an object, as its name was declared; that of no object is Throwable, of which none is made
 abbrev pub class_name_of : ℕ → State → List ℕ
-class_name_of o m = if is_object m.heap o then unwrap_or (slice_get (class_names m.classes) (class_at m.heap o)) [] else []
+class_name_of o m = if is_object m.heap o then unwrap_or (slice_get (class_names m.classes) (class_at m.heap o)) (name_of Throwable) else name_of Throwable
 
 -- an event comes
 abbrev pub note : Event → Act (Unit {0})

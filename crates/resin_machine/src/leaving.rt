@@ -1,5 +1,6 @@
 //! Writes, output buffers, and what a request leaves.
 ghost use Rattle.std.specs.Prelude.{◌≡◌, ◌<◌, [], length, decimal, Some, false, IfOk, IsTrue};
+ghost use Rattle.resin_scan.specs.Words.{IsName};
 ghost use Rattle.resin_lstr.specs.Texts.{bytes_of};
 ghost use Rattle.resin_journal.specs.Channels.{is_leaving};
 ghost use Rattle.resin_stage.specs.Lines.{header_line};
@@ -10,6 +11,7 @@ ghost use Rattle.resin_machine.specs.Leaving.{draw, class_name_of, pass, deny, d
 use crate::machine::Machine;
 use crate::stop::Stop;
 use resin_bytes::{Bytes, HeaderList};
+use resin_heap::PreludeClass;
 use resin_journal::{Channel, Journal};
 use resin_lstr::{LText, TextFault};
 use resin_scalar::ScriptFault;
@@ -43,16 +45,17 @@ fn copied(alloc: Global, name: &[u8]) -> Result<Bytes, AllocError>
 }
 
 impl Machine {
-    /// The name of the class of an object, as it was declared; empty where there is no such object.
+    /// The name of the class of an object, as it was declared. Where there is no such object it is `Throwable`, of which none is made.
     pub fn name_of(&self, o: u32) -> &[u8]
-        ensures { result.now ≡ class_name_of o self.now }
+        ensures value { result.now ≡ class_name_of o self.now }
+        ensures name { IsName result.now }
     {
         if o == 0 || o > self.heap.len() {
-            return b"";
+            return PreludeClass::Throwable.name().as_bytes();
         }
         let class = self.heap.class_of(o);
         if class >= self.classes.len() {
-            return b"";
+            return PreludeClass::Throwable.name().as_bytes();
         }
         self.classes.class_name(class)
     }

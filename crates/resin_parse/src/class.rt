@@ -44,7 +44,7 @@ impl<
         requires { Nests self.now.reader.depth (F.pre self.now.nested) (F.post self.now.nested) }
         ensures { Reads (by self.now.reader (declarations.function line) tokens.old) result tokens.new }
     {
-        let name = self.reader.a_name(tokens)?;
+        let name = self.reader.a_name(tokens)?.bytes()?;
         let parameters = self.reader.in_parameters(tokens)?;
         self.reader.expect(tokens, Sign::RightRound)?;
         self.reader.result_type(tokens)?;
@@ -255,7 +255,7 @@ impl<
         match tokens.peek() {
             Some(next) if is_word(Word::Extends, &next.kind) => {
                 tokens.skip(next);
-                Ok(Some(self.reader.a_name(tokens)?))
+                Ok(Some(self.reader.a_name(tokens)?.bytes()?))
             }
             _ => Ok(None),
         }

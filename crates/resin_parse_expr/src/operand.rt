@@ -314,7 +314,7 @@ impl<F: Fn(Global, &mut Cursor<'_, Token>, usize, u8) -> Result<Tall, Fault> + C
             TokenKind::Int(n) => Ok(Operand::Tree(Tall::int(self.parser.alloc, *n)?)),
             TokenKind::Text(bytes) => self.literal_text(tokens, bytes),
             TokenKind::Variable(name) => self.variable_target(tokens, name),
-            TokenKind::Name(name) => self.named(tokens, name.clone()?),
+            TokenKind::Name(name) => self.named(tokens, name.bytes()?),
             TokenKind::Mark(Mark::LeftRound) => self.bracketed(tokens),
             TokenKind::Mark(Mark::LeftSquare) => self.array(tokens, Sign::RightSquare),
             TokenKind::Keyword(Keyword::Array) => self.long_array(tokens),

@@ -163,7 +163,7 @@ impl<'l> Reader<'l> {
     ) -> Result<Items<SharedBytes>, Fault>
         ensures { Reads (under (line_in self.now.lines.now) self.now.depth (spec.one_class classes) tokens.old) result tokens.new }
     {
-        let next = self.a_name(tokens)?;
+        let next = self.a_name(tokens)?.bytes()?;
         classes.push(next)?;
         Ok(classes)
     }

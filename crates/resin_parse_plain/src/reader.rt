@@ -14,9 +14,9 @@ ghost use Rattle.resin_parse_plain.specs.Lines.{line_in};
 use crate::lines::Lines;
 use resin_form::{Cursor, Fault};
 use resin_grammar::sign::is_sign;
-use resin_grammar::tokens::{is_name, is_variable, name_of};
+use resin_grammar::tokens::{is_variable, name_of};
 use resin_grammar::{Sign, TallPlace};
-use resin_lex::{Expr, SharedBytes, Token};
+use resin_lex::{Expr, Name, SharedBytes, Token, TokenKind};
 use resin_parse_expr::{read_expression, read_target};
 use resin_program_grammar::Word;
 use resin_program_grammar::word::is_word;
@@ -97,13 +97,16 @@ impl<'l> Reader<'l> {
 
     /// A name.
     #[tactic(auto, unfolding(resin_program_grammar::specs::Combine::a_name))]
-    pub fn a_name(&self, tokens: &mut Cursor<'_, Token>) -> Result<SharedBytes, Fault>
+    pub fn a_name(&self, tokens: &mut Cursor<'_, Token>) -> Result<Name, Fault>
         ensures { Reads (under (line_in self.now.lines.now) self.now.depth spec.a_name tokens.old) result tokens.new }
     {
-        match tokens.peek() {
-            Some(next) if is_name(&next.kind) => {
+        let Some(next) = tokens.peek() else {
+            return Err(Fault::Syntax);
+        };
+        match &next.kind {
+            TokenKind::Name(name) => {
                 tokens.skip(next);
-                Ok(name_of(self.alloc, &next.kind)?)
+                Ok(name.clone()?)
             }
             _ => Err(Fault::Syntax),
         }

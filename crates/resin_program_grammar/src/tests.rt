@@ -6,7 +6,7 @@ use crate::tokens::{
 use crate::word::is_word;
 use crate::{Chain, Compound, Plain, Word};
 use resin_lex::{
-    Expr, Items, Keyword, Literal, Mark, SharedBytes, Stmt, StmtKind, Token, TokenKind,
+    Expr, Items, Keyword, Literal, Mark, Name, SharedBytes, Stmt, StmtKind, Token, TokenKind,
 };
 use std::test::Fail;
 
@@ -20,7 +20,7 @@ fn keyword(word: Keyword) -> Token {
 
 fn name(rt: &HostRuntime) -> Result<Token, Fail> {
     Ok(Token {
-        kind: TokenKind::Name(SharedBytes::from_slice(rt.alloc(), b"int")?),
+        kind: TokenKind::Name(Name::new(SharedBytes::from_slice(rt.alloc(), b"int")?)),
         from: 0,
         to: 3,
     })

@@ -15,6 +15,7 @@ pub lawful_parts : (request : ℕ) (path : List ℕ) (head_only : Bool) (end : E
     → IsLawful request (with_parts path head_only end s)
 lawful_parts request path head_only end s law tied = record {
   writes = law.law;
+  classes = law.named;
   body = ap (λ b. b ++ fixed_text end) tied.body;
   mail = tied.mail;
   headers = tied.headers;
@@ -28,6 +29,7 @@ nothing = record { placed = refl; checked = λ w p. refl; in_order = refl }
 pub lawful_unbuilt : (request : ℕ) → IsLawful request unbuilt
 lawful_unbuilt request = record {
   writes = nothing;
+  classes = tt;
   body = Rattle.std.proofs.Common.refl;
   mail = Rattle.std.proofs.Common.refl;
   headers = tt;

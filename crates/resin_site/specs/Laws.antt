@@ -1,7 +1,7 @@
 -- The access law of an answer: data leaves only through checked writes, and the answer is what they sent (RESIN's claim, over this project's journal).
 use Rattle.std.specs.Prelude.{◌≡◌, ◌≢◌, ℕ, Bool, List, ◌++◌, decimal, ◌⊎◌, Option, Some, None, ⊤}
 use Rattle.resin_http.specs.Response.{response}
-use Rattle.resin_journal.specs.Access.{ObeysAccessLaw}
+use Rattle.resin_journal.specs.Access.{ObeysAccessLaw, ClassesAreNames}
 use Rattle.resin_stage.specs.Ties.{sent_body, sent_mails, sent_headers, sent_lines, IsPartOf, IsOneOf}
 use Rattle.resin_site.specs.declared.outcome.End.TheVariants.{Served, NotYet}
 use Rattle.resin_site.specs.declared.outcome.End.{End}
@@ -17,12 +17,13 @@ pub record IsTextOfParts (o : Outcome) : Type 0 where
   pub head_only : Bool
   pub text : o.response ≡ response o.status o.headers (kind_at o.end path) o.body head_only
 
--- The journal obeys the law of writes. The body is what was sent on `http`, and then the fixed text of the end. The mail is what was sent on
+-- The journal obeys the law of writes, and tells classes by names. The body is what was sent on `http`, and then the fixed text of the end. The mail is what was sent on
 -- `email`, in the request of this number. Each header was sent on `header`, and they stand in that order. Where the request was served, the status
 -- is the first one, that of a `Location` header, or was sent. The response says this status, these headers and this body, and nothing else; only what
 -- isn't built has no response.
 pub record IsLawful (request : ℕ) (o : Outcome) : Type 0 where
   pub writes : ObeysAccessLaw o.journal
+  pub classes : ClassesAreNames o.journal
   pub body : o.body ≡ sent_body o.journal ++ fixed_text o.end
   pub mail : o.mail ≡ sent_mails request o.journal
   pub headers : IsPartOf o.headers (sent_headers o.journal)

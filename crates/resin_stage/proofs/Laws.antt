@@ -7,13 +7,14 @@ use Rattle.std.proofs.lemmas.List.{append-nil, map-append}
 use Rattle.std.proofs.lemmas.List.Elements.{filter-append}
 use Rattle.std.proofs.lemmas.List.Folds.{list_all-append, list_any-append}
 use Rattle.std.proofs.lemmas.Bool.Decides.{nat_tests}
+use Rattle.resin_scan.specs.Words.{IsName}
 use Rattle.resin_lstr.specs.Texts.{Text, policies_in_order}
 use Rattle.resin_journal.specs.declared.event.Event.{Event}
 use Rattle.resin_journal.specs.declared.event.Event.TheVariants.{Passed, Sent, Denied, FilterDenied}
 use Rattle.resin_journal.specs.declared.channel.Channel.{Channel}
 use Rattle.resin_journal.specs.Channels.{is_leaving}
 use Rattle.resin_journal.specs.Events.{EventList}
-use Rattle.resin_journal.specs.Access.{write_of, is_placed, events_of, passed_first, behind_passed, is_among, are_distinct, may_end, is_one_write, never_fall, writes_of, ObeysAccessLaw}
+use Rattle.resin_journal.specs.Access.{write_of, is_placed, events_of, passed_first, behind_passed, is_among, are_distinct, may_end, is_one_write, never_fall, writes_of, ObeysAccessLaw, TellsNames, ClassesAreNames}
 use Rattle.resin_stage.specs.Writes.{IsLawful, IsOpen, MayAsk, MaySend}
 
 false_true : false ≡ true → ⊥
@@ -99,9 +100,13 @@ rising_next n (m ∷ ns) h r =
 all-next : (p : Event → Bool) (j : EventList) (e : Event) → list_all p j ≡ true → p e ≡ true → list_all p (j ++ e ∷ []) ≡ true
 all-next p j e h k = list_all-append p j (e ∷ []) ∙ both _ _ h (both _ _ k refl)
 
+named_next : (j : EventList) (e : Event) → ClassesAreNames j → TellsNames e → ClassesAreNames (j ++ e ∷ [])
+named_next [] e h k = (k, tt)
+named_next (d ∷ j) e h k = (h.0, named_next j e h.1 k)
+
 -- of the write under way
-pub lawful_next : (j : EventList) (n : ℕ) (e : Event) → IsLawful j n → 0 < n → write_of e ≡ n → is_placed e ≡ true → is_one_write (events_of n j ++ e ∷ []) ≡ true → IsLawful (j ++ e ∷ []) n
-lawful_next j n e l pos same placed one = record {
+pub lawful_next : (j : EventList) (n : ℕ) (e : Event) → IsLawful j n → 0 < n → write_of e ≡ n → is_placed e ≡ true → is_one_write (events_of n j ++ e ∷ []) ≡ true → TellsNames e → IsLawful (j ++ e ∷ []) n
+lawful_next j n e l pos same placed one names = record {
   law = record {
     placed = all-next is_placed j e l.law.placed placed;
     checked = λ w h. subst (λ es. is_one_write es ≡ true) (sym (events-append w j (e ∷ []))) (each w h (n == w) refl);
@@ -109,6 +114,7 @@ lawful_next j n e l pos same placed one = record {
         ∙ rising_next n (writes_of j) (bounded n j l.drawn) l.law.in_order;
   };
   drawn = all-next (λ e. nat_le (write_of e) n) j e l.drawn (le_true (write_of e) n (omega (arith, same)));
+  named = named_next j e l.named names;
 }
   where
     each : (w : ℕ) → 0 < w → (b : Bool) → (n == w) ≡ b → is_one_write (events_of w j ++ events_of w (e ∷ [])) ≡ true
@@ -120,8 +126,8 @@ lawful_next j n e l pos same placed one = record {
         ap (λ es. is_one_write (events_of w j ++ es)) (other_of w e q) ∙ (ap is_one_write (append-nil (events_of w j)) ∙ l.law.checked w h)
 
 -- outside of the writes that leave
-pub lawful_outside : (j : EventList) (n : ℕ) (e : Event) → IsLawful j n → write_of e ≡ 0 → is_placed e ≡ true → IsLawful (j ++ e ∷ []) n
-lawful_outside j n e l zero placed = record {
+pub lawful_outside : (j : EventList) (n : ℕ) (e : Event) → IsLawful j n → write_of e ≡ 0 → is_placed e ≡ true → TellsNames e → IsLawful (j ++ e ∷ []) n
+lawful_outside j n e l zero placed names = record {
   law = record {
     placed = all-next is_placed j e l.law.placed placed;
     checked = λ w h.
@@ -130,14 +136,15 @@ lawful_outside j n e l zero placed = record {
     in_order = ap never_fall (writes-append j (e ∷ []) ∙ (ap (λ ws. writes_of j ++ ws) (writes_zero e zero) ∙ append-nil (writes_of j))) ∙ l.law.in_order;
   };
   drawn = all-next (λ e. nat_le (write_of e) n) j e l.drawn (le_true (write_of e) n (omega (arith, zero)));
+  named = named_next j e l.named names;
 }
 
 pub lawful_new : IsLawful [] 0
-lawful_new = record { law = record { placed = refl; checked = λ w h. refl; in_order = refl }; drawn = refl }
+lawful_new = record { law = record { placed = refl; checked = λ w h. refl; in_order = refl }; drawn = refl; named = tt }
 
 -- a write begins
 pub lawful_drawn : (j : EventList) (n : ℕ) → IsLawful j n → IsLawful j (n + 1)
-lawful_drawn j n l = record { law = l.law; drawn = bound_more n (n + 1) j (omega arith) l.drawn }
+lawful_drawn j n l = record { law = l.law; drawn = bound_more n (n + 1) j (omega arith) l.drawn; named = l.named }
 
 pub open_drawn : (j : EventList) (n : ℕ) → IsLawful j n → IsOpen (n + 1) [] j (n + 1)
 open_drawn j n l = record { last = refl; positive = omega arith; events = none_above n (n + 1) j (omega arith) l.drawn; distinct = refl }
@@ -187,15 +194,17 @@ lawful_passed j n w p l k =
     lawful_next j n (Passed w p) l (omega (arith, k.way.positive, k.way.last)) k.way.last (lt_true 0 w k.way.positive)
     (subst (λ v. is_one_write (events_of v j ++ Passed w p ∷ []) ≡ true) k.way.last
     (one_write w k.passed j (Passed w p) k.way.events ∙ distinct_next k.passed p k.way.distinct k.out))
+    tt
 
 -- a policy denied
-pub lawful_denied : (j : EventList) (n w : ℕ) (c : Channel) (p : ℕ) (class : List ℕ) (from to : ℕ) (by : List ℕ) → IsLawful j n → MayAsk w p j n → is_leaving c ≡ true → from < to → IsLawful (j ++ Denied w c p class from to by ∷ []) n
-lawful_denied j n w c p class from to by l k leaving lt =
+pub lawful_denied : (j : EventList) (n w : ℕ) (c : Channel) (p : ℕ) (class : List ℕ) (from to : ℕ) (by : List ℕ) → IsLawful j n → MayAsk w p j n → is_leaving c ≡ true → from < to → IsName class → IsName by → IsLawful (j ++ Denied w c p class from to by ∷ []) n
+lawful_denied j n w c p class from to by l k leaving lt class_named by_named =
     lawful_next j n (Denied w c p class from to by) l (omega (arith, k.way.positive, k.way.last)) k.way.last (both _ _ (lt_true 0 w k.way.positive) leaving)
     (subst (λ v. is_one_write (events_of v j ++ Denied w c p class from to by ∷ []) ≡ true) k.way.last
     (one_write w k.passed j (Denied w c p class from to by) k.way.events
     ∙ (ap (λ ps. may_end ps (Denied w c p class from to by ∷ [])) (append-nil k.passed)
     ∙ both _ _ (both _ _ k.way.distinct (ap not k.out)) (lt_true from to lt))))
+    (class_named, by_named)
 
 -- the text went out
 pub lawful_sent : (j : EventList) (n w : ℕ) (c : Channel) (t : Text) → IsLawful j n → MaySend w t j n → is_leaving c ≡ true → IsLawful (j ++ Sent w c t ∷ []) n
@@ -205,18 +214,20 @@ lawful_sent j n w c t l o leaving =
     (one_write w (policies_in_order t) j (Sent w c t) o.events
     ∙ (ap (λ ps. may_end ps (Sent w c t ∷ [])) (append-nil (policies_in_order t))
     ∙ pointwise_refl (policies_in_order t))))
+    tt
 
 -- a filter denied before any policy was asked
-pub lawful_filtered : (j : EventList) (n w : ℕ) (c : Channel) (f : ℕ) (class : List ℕ) (len : ℕ) (by : List ℕ) → IsLawful j n → IsOpen w [] j n → is_leaving c ≡ true → IsLawful (j ++ FilterDenied w c f class len by ∷ []) n
-lawful_filtered j n w c f class len by l o leaving =
+pub lawful_filtered : (j : EventList) (n w : ℕ) (c : Channel) (f : ℕ) (class : List ℕ) (len : ℕ) (by : List ℕ) → IsLawful j n → IsOpen w [] j n → is_leaving c ≡ true → IsName class → IsName by → IsLawful (j ++ FilterDenied w c f class len by ∷ []) n
+lawful_filtered j n w c f class len by l o leaving class_named by_named =
     lawful_next j n (FilterDenied w c f class len by) l (omega (arith, o.positive, o.last)) o.last
     (ap (λ b. cond b (not (is_leaving c)) (is_leaving c)) (ne_false w 0 (λ e. omega (arith, e, o.positive))) ∙ leaving)
     (subst (λ v. is_one_write (events_of v j ++ FilterDenied w c f class len by ∷ []) ≡ true) o.last
     (one_write w [] j (FilterDenied w c f class len by) o.events))
+    (class_named, by_named)
 
 -- a filter denied outside of the writes that leave
-pub lawful_kept : (j : EventList) (n : ℕ) (c : Channel) (f : ℕ) (class : List ℕ) (len : ℕ) (by : List ℕ) → IsLawful j n → is_leaving c ≡ false → IsLawful (j ++ FilterDenied 0 c f class len by ∷ []) n
-lawful_kept j n c f class len by l kept = lawful_outside j n (FilterDenied 0 c f class len by) l refl (ap not kept)
+pub lawful_kept : (j : EventList) (n : ℕ) (c : Channel) (f : ℕ) (class : List ℕ) (len : ℕ) (by : List ℕ) → IsLawful j n → is_leaving c ≡ false → IsName class → IsName by → IsLawful (j ++ FilterDenied 0 c f class len by ∷ []) n
+lawful_kept j n c f class len by l kept class_named by_named = lawful_outside j n (FilterDenied 0 c f class len by) l refl (ap not kept) (class_named, by_named)
 
 -- ---- the write under way
 

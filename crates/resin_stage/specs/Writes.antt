@@ -5,12 +5,13 @@ use Rattle.resin_lstr.specs.Texts.{Text, policies_in_order}
 use Rattle.resin_journal.specs.declared.event.Event.{Event}
 use Rattle.resin_journal.specs.declared.event.Event.TheVariants.{Passed}
 use Rattle.resin_journal.specs.Events.{EventList}
-use Rattle.resin_journal.specs.Access.{write_of, events_of, is_among, are_distinct, ObeysAccessLaw}
+use Rattle.resin_journal.specs.Access.{write_of, events_of, is_among, are_distinct, ObeysAccessLaw, ClassesAreNames}
 
--- the journal obeys the access law, and no event has a larger number than the last one drawn
+-- the journal obeys the access law, no event has a larger number than the last one drawn, and classes are told by names
 pub record IsLawful (journal : EventList) (writes : ℕ) : Type 0 where
   pub law : ObeysAccessLaw journal
   pub drawn : IsTrue (list_all (λ e. nat_le (write_of e) writes) journal)
+  pub named : ClassesAreNames journal
 
 -- the last write that was drawn is under way, and these policies returned so far, in order
 pub record IsOpen (w : ℕ) (passed : List ℕ) (journal : EventList) (writes : ℕ) : Type 0 where

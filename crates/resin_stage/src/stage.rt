@@ -1,5 +1,6 @@
 //! The writes of a request, and the answer under way.
 ghost use Rattle.std.specs.Prelude.{◌≡◌, false, ℕ, ◌+◌, ◌-◌, ◌^◌, ◌<◌, ◌≤◌, [], ◌∷◌, ◌++◌, length, decimal, Some, IfSome, IfNone, MatchOption, OnOk, OnErr, IsTrue};
+ghost use Rattle.resin_scan.specs.Words.{IsName};
 ghost use Rattle.resin_lstr.specs.Texts.{bytes_of};
 ghost use Rattle.resin_journal.specs.Channels.{is_leaving};
 ghost use Rattle.resin_journal.specs.declared.event.Event.{Event as JournalEvent};
@@ -126,6 +127,7 @@ impl Stage {
         requires may { MayAsk write policy self.old.journal self.old.writes }
         requires leaving { IsTrue (is_leaving channel) }
         requires range { from < to }
+        requires names { IsName class × IsName by }
         ensures ok { OnOk result (self.new ≡ noted (JournalEvent.Denied write channel policy class from to by) self.old) }
         ensures err { OnErr result (self.new ≡ self.old) }
     {
@@ -154,6 +156,7 @@ impl Stage {
     ) -> Result<(), AllocError>
         requires way { IsOpen write [] self.old.journal self.old.writes }
         requires leaving { IsTrue (is_leaving channel) }
+        requires names { IsName class × IsName by }
         ensures ok { OnOk result (self.new ≡ noted (JournalEvent.FilterDenied write channel filter class len by) self.old) }
         ensures err { OnErr result (self.new ≡ self.old) }
     {
@@ -177,7 +180,8 @@ impl Stage {
         len: u64,
         by: Bytes,
     ) -> Result<(), AllocError>
-        requires { is_leaving channel ≡ false }
+        requires kept { is_leaving channel ≡ false }
+        requires names { IsName class × IsName by }
         ensures ok { OnOk result (self.new ≡ noted (JournalEvent.FilterDenied 0 channel filter class len by) self.old) }
         ensures err { OnErr result (self.new ≡ self.old) }
     {

@@ -1,5 +1,6 @@
 //! The answer under way, as its parts are told by the formats of this project.
 ghost use Rattle.std.specs.Prelude.{◌≡◌, Some, IfOk};
+ghost use Rattle.resin_scan.specs.Words.{IsName};
 ghost use Rattle.resin_label.specs.Sets.{empty as no_labels};
 ghost use Rattle.resin_lstr.specs.Texts.{carrying};
 ghost use Rattle.resin_stage.specs.Lines.{header_line};
@@ -125,7 +126,10 @@ fn buffers_nest(rt: HostRuntime) -> Result<(), Fail> {
     Ok(())
 }
 
-fn name(alloc: Global, bytes: &[u8]) -> Result<Bytes, AllocError> {
+fn name(alloc: Global, bytes: &[u8]) -> Result<Bytes, AllocError>
+    requires { IsName bytes.now }
+    ensures { IfOk result (λ name. IsName name) }
+{
     Bytes::from_slice(alloc, bytes)
 }
 

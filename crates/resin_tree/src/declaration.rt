@@ -2,6 +2,7 @@
 ghost use Rattle.std.specs.Prelude.{◌≡◌, IfOk};
 
 use crate::expression::Literal;
+use crate::name::Name;
 use crate::statement::Stmt;
 use resin_items::{Items, Shared, SharedBytes};
 use std::alloc::AllocError;
@@ -54,8 +55,7 @@ pub struct Property {
 pub struct ClassDecl {
     /// The line of the declaration's first token, from 1.
     pub line: u32,
-    /// The name as it is written.
-    pub name: SharedBytes,
+    pub name: Name,
     /// The name behind `extends`, where it is written.
     pub parent: Option<SharedBytes>,
     /// The properties in their order.
@@ -137,7 +137,7 @@ mod tests {
         };
         let class = ClassDecl {
             line: 4,
-            name: SharedBytes::from_slice(alloc, b"C")?,
+            name: Name::new(SharedBytes::from_slice(alloc, b"C")?),
             parent: Some(SharedBytes::from_slice(alloc, b"D")?),
             properties: Shared::new(alloc, Items::new(alloc))?,
             methods: Shared::new(alloc, Items::new(alloc))?,

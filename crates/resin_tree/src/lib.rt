@@ -5,6 +5,7 @@
 
 mod declaration;
 mod expression;
+mod name;
 mod statement;
 
 pub use declaration::{
@@ -14,5 +15,6 @@ pub use expression::{
     Access, ArrayItem, Assignment, Call, Combining, Comparison, ConstantName, Expr, Import,
     Literal, Operation, PathStep, Target, Test, Unary,
 };
+pub use name::Name;
 pub use resin_items::{Boxed, Items, Shared, SharedBytes};
 pub use statement::{Branch, Case, Catch, Loop, Simple, Stmt, StmtKind};

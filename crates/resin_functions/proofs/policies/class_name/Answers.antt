@@ -15,4 +15,4 @@ returns-in_err-plain c =
 
 pub returns : goal.returns
 returns c =
-    rw c.in-Obj.is (class_told c.in-Obj.o _ c.name_of.result.now _ c.name_of.ensures c.in_ok-plain.ensures)
+    rw c.in-Obj.is (class_told c.in-Obj.o _ c.name_of.result.now _ c.name_of.ensures.value c.in_ok-plain.ensures)

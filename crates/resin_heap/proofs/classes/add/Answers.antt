@@ -8,7 +8,7 @@ pub returns-clause-ok : goal.returns-clause-ok
 returns-clause-ok c =
     let es = c.args.table.now.entries in
     let d = c.args.c.now in
-    let key : c.kept.result ≡ d.name = c.kept.ensures ∙ c.in_ok-clone.ensures.cases in
+    let key : c.kept.result ≡ d.name = c.kept.ensures ∙ c.in_ok-bytes.ensures in
     c.in_ok-insert.ensures.entries
     ∙ (λ i. insert_entry same_name es (key i) (c.in_ok-class.ensures i))
     ∙ goes_last es d.name (d, c.args.parent) c.requires.kept.named c.requires.fresh

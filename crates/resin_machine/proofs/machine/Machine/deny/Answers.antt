@@ -24,4 +24,4 @@ pub returns-in_err-denied : goal.returns-in_err-denied
 returns-in_err-denied c = record { acts = stage_lost _ _ _ _ _ c.self.view_is c.in_err-denied.ensures.err c.from_residual-in_err-denied.ensures.1 }
 
 pub returns : goal.returns
-returns c = record { acts = denied_acts _ _ _ _ _ _ _ _ _ _ _ c.self.view_is c.requires.may.awake (c.in_ok-class.ensures ∙ c.name_of.ensures) (c.in_ok-by.ensures ∙ c.name_of-2.ensures) c.in_ok-denied.ensures.ok }
+returns c = record { acts = denied_acts _ _ _ _ _ _ _ _ _ _ _ c.self.view_is c.requires.may.awake (c.in_ok-class.ensures ∙ c.name_of.ensures.value) (c.in_ok-by.ensures ∙ c.name_of-2.ensures.value) c.in_ok-denied.ensures.ok }

@@ -22,4 +22,4 @@ pub returns-in_err-filter_denied : goal.returns-in_err-filter_denied
 returns-in_err-filter_denied c = record { acts = stage_lost _ _ _ _ _ c.self.view_is c.in_err-filter_denied.ensures.err c.from_residual-in_err-filter_denied.ensures.1 }
 
 pub returns : goal.returns
-returns c = record { acts = filter_denied_acts _ _ _ _ _ _ _ _ _ _ c.self.view_is c.requires.way.awake (c.in_ok-class.ensures ∙ c.name_of.ensures) (c.in_ok-by.ensures ∙ c.name_of-2.ensures) c.in_ok-filter_denied.ensures.ok }
+returns c = record { acts = filter_denied_acts _ _ _ _ _ _ _ _ _ _ c.self.view_is c.requires.way.awake (c.in_ok-class.ensures ∙ c.name_of.ensures.value) (c.in_ok-by.ensures ∙ c.name_of-2.ensures.value) c.in_ok-filter_denied.ensures.ok }
