@@ -25,8 +25,6 @@ mod stored;
 mod table_map;
 mod tables;
 mod tally;
-#[cfg(test)]
-mod tests;
 
 pub use calls::Calls;
 pub use calm_files::CalmFiles;

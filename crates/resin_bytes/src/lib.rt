@@ -8,8 +8,6 @@ mod header;
 mod number;
 mod numbers;
 mod paths;
-#[cfg(test)]
-mod tests;
 
 pub use byte_list::Bytes;
 pub use canonical::canonical_key;

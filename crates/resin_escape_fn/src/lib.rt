@@ -13,6 +13,3 @@ pub use characters::{chr, ord};
 pub use digests::{md5, sha1};
 pub use escapes::{addslashes, bin2hex, htmlspecialchars, rawurlencode, sql_quote, urlencode};
 pub use line_breaks::nl2br;
-
-#[cfg(test)]
-mod tests;

@@ -12,6 +12,3 @@ pub use args::{FormatArg, FormatArgs};
 pub use form::Kind;
 pub use places::{Kinds, argument_kinds, int_places};
 pub use spelling::sprintf;
-
-#[cfg(test)]
-mod tests;

@@ -15,8 +15,6 @@ pub mod operators;
 pub mod place;
 pub mod sign;
 pub mod tall;
-#[cfg(test)]
-mod tests;
 pub mod tokens;
 
 pub use operators::{Operator, Prefix, Writing};

@@ -16,6 +16,3 @@ pub use fields::ObjectFields;
 pub use heap::{Heap, MOST_OBJECTS, Object};
 pub use laws::{class_laws, object_laws};
 pub use prelude::{PRELUDE, PRELUDE_LEN, PreludeClass, PreludeMethod};
-
-#[cfg(test)]
-mod tests;

@@ -18,6 +18,3 @@ pub use resin_bytes::{Header, HeaderList};
 pub use resin_inputs::InputArrays;
 pub use response::response_text;
 pub use stream::{next_marked, next_request};
-
-#[cfg(test)]
-mod tests;

@@ -11,6 +11,3 @@ mod puts;
 
 pub use arrays::{InputArrays, input_arrays};
 pub use laws::entry_law;
-
-#[cfg(test)]
-mod tests;

@@ -5,8 +5,6 @@ mod channel;
 mod denial;
 mod event;
 mod journal;
-#[cfg(test)]
-mod tests;
 
 pub use channel::Channel;
 pub use denial::denial_line;

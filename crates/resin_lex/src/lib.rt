@@ -20,6 +20,3 @@ pub use resin_tree::{
     Stmt, StmtKind, Target, Test, Unary,
 };
 pub use token::{Mark, ParseFault, Token, TokenKind, TokenList, Tokens};
-
-#[cfg(test)]
-mod tests;

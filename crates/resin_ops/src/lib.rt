@@ -10,6 +10,3 @@ pub use arithmetic::arith;
 pub use conversions::{to_int, to_key, to_number, to_text};
 pub use index::index_text;
 pub use operator::Arith;
-
-#[cfg(test)]
-mod tests;

@@ -14,8 +14,6 @@ ghost use Rattle.resin_program_grammar.specs.Declarations.{rules, program};
 pub mod chain;
 pub mod lead;
 pub mod members;
-#[cfg(test)]
-mod tests;
 pub mod tokens;
 pub mod word;
 

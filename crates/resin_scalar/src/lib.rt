@@ -8,6 +8,3 @@ mod ticks;
 pub use faults::{CallStop, ErrorKind, ScriptFault};
 pub use scalar::{NumFault, Scalar, cast_int, compare, number, truth};
 pub use ticks::{Spent, Ticks};
-
-#[cfg(test)]
-mod tests;

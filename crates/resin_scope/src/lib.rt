@@ -5,8 +5,6 @@ mod chains;
 mod names;
 mod page;
 mod scopes;
-#[cfg(test)]
-mod tests;
 
 pub use chains::Chains;
 pub use page::Page;

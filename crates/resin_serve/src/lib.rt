@@ -13,6 +13,3 @@ mod words;
 pub use laws::{any_cutting, asked_tells, lives_tell, same_lives};
 pub use status::{Ended, Status};
 pub use top::serve;
-
-#[cfg(test)]
-mod tests;

@@ -8,6 +8,3 @@ mod site;
 pub use outcome::{End, Outcome, log_text, refusal};
 pub use serving::serve_one;
 pub use site::Site;
-
-#[cfg(test)]
-mod tests;

@@ -5,8 +5,6 @@ mod buffers;
 mod law;
 mod letter;
 mod stage;
-#[cfg(test)]
-mod tests;
 
 pub use law::journal_laws;
 pub use stage::Stage;

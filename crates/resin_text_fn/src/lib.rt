@@ -19,6 +19,3 @@ pub use replace::str_replace;
 pub use search::{
     str_contains, str_ends_with, str_starts_with, strcmp, strlen, strpos, strrpos, substr_count,
 };
-
-#[cfg(test)]
-mod tests;

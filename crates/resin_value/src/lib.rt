@@ -14,6 +14,3 @@ pub use lists::{Fields, Values};
 pub use resin_bytes::{Header, HeaderList};
 pub use resin_scalar::{CallStop, ErrorKind, ScriptFault, Spent, Ticks};
 pub use value::{Arr, ArrFault, MAX_HEIGHT, Value};
-
-#[cfg(test)]
-mod tests;
