@@ -5,17 +5,17 @@ use Rattle.std.specs.List.{slice_range}
 use Rattle.std.proofs.lemmas.Bool.{true≢false}
 use Rattle.std.proofs.lemmas.List.{reverse-append, take_more, take_all}
 use Rattle.std.proofs.lemmas.Option.{slice_get_within, get_or_from_slice_get}
-use Rattle.resin_lstr.specs.Texts.{Text as LabelledText}
-use Rattle.resin_scalar.specs.declared.faults.CallStop.{CallStop}
-use Rattle.resin_scalar.specs.declared.faults.CallStop.TheVariants.{Throw, Fault, Memory}
-use Rattle.resin_value.specs.declared.key.Key.{Key}
-use Rattle.resin_value.specs.Keys.{is_lawful}
-use Rattle.resin_value.specs.Trees.{Tree}
-use Rattle.resin_value.specs.Arrays.{EntryList, Array}
-use Rattle.resin_value.specs.Changes.{AreLawful}
-use Rattle.resin_value.proofs.Compared.{drop_at}
+use Rattle.resin_ops.specs.Under.lstr.Texts.{Text as LabelledText}
+use Rattle.resin_ops.specs.Under.scalar.declared.faults.CallStop.{CallStop}
+use Rattle.resin_ops.specs.Under.scalar.declared.faults.CallStop.TheVariants.{Throw, Fault, Memory}
+use Rattle.resin_ops.specs.Under.value.declared.key.Key.{Key}
+use Rattle.resin_ops.specs.Under.value.Keys.{is_lawful}
+use Rattle.resin_ops.specs.Under.value.Trees.{Tree}
+use Rattle.resin_ops.specs.Under.value.Arrays.{EntryList, Array}
+use Rattle.resin_ops.specs.Under.value.Changes.{AreLawful}
+use Rattle.resin_ops.proofs.value_lemmas.Compared.{drop_at}
 use Rattle.resin_ops.specs.Conversions.{text_of}
-use Rattle.resin_scalar.specs.Stops.{Gives}
+use Rattle.resin_ops.specs.Under.scalar.Stops.{Gives}
 use Rattle.resin_text_fn.specs.Stops.{GivesOrNoMemory}
 use Rattle.resin_array_fn.specs.Filled.{and_then, Addition, added_at, filled_on, in_order, kept_key, with_kept_keys}
 use Rattle.resin_array_fn.specs.Rows.{texts_in, entries_in, merged_on}

@@ -1,16 +1,16 @@
 -- Arrays that are made of entries, one after the other (PHP manual, "Arrays"; the height is this project's).
 use Rattle.std.specs.Prelude.{ℤ, Bool, nat_le, if◌then◌else◌, List, [], ◌∷◌, map, Option, Some, None, Result, Ok, Err}
-use Rattle.resin_scalar.specs.declared.faults.CallStop.{CallStop}
-use Rattle.resin_scalar.specs.declared.faults.CallStop.TheVariants.{Throw, Fault, Memory}
-use Rattle.resin_scalar.specs.declared.faults.ErrorKind.TheVariants.{Plain}
-use Rattle.resin_scalar.specs.declared.faults.ScriptFault.TheVariants.{ArrayTooDeep}
-use Rattle.resin_value.specs.declared.key.Key.{Key}
-use Rattle.resin_value.specs.declared.key.Key.TheVariants.{Int, Text}
-use Rattle.resin_value.specs.declared.value.ArrFault.{ArrFault}
-use Rattle.resin_value.specs.declared.value.ArrFault.TheVariants.{NoNextKey, TooHigh, Memory as NoMemory}
-use Rattle.resin_value.specs.Trees.{Tree}
-use Rattle.resin_value.specs.Arrays.{EntryList, Array}
-use Rattle.resin_value.specs.Changes.{next_of, put, empty}
+use Rattle.resin_ops.specs.Under.scalar.declared.faults.CallStop.{CallStop}
+use Rattle.resin_ops.specs.Under.scalar.declared.faults.CallStop.TheVariants.{Throw, Fault, Memory}
+use Rattle.resin_ops.specs.Under.scalar.declared.faults.ErrorKind.TheVariants.{Plain}
+use Rattle.resin_ops.specs.Under.scalar.declared.faults.ScriptFault.TheVariants.{ArrayTooDeep}
+use Rattle.resin_ops.specs.Under.value.declared.key.Key.{Key}
+use Rattle.resin_ops.specs.Under.value.declared.key.Key.TheVariants.{Int, Text}
+use Rattle.resin_ops.specs.Under.value.declared.value.ArrFault.{ArrFault}
+use Rattle.resin_ops.specs.Under.value.declared.value.ArrFault.TheVariants.{NoNextKey, TooHigh, Memory as NoMemory}
+use Rattle.resin_ops.specs.Under.value.Trees.{Tree}
+use Rattle.resin_ops.specs.Under.value.Arrays.{EntryList, Array}
+use Rattle.resin_ops.specs.Under.value.Changes.{next_of, put, empty}
 
 -- goes on with a value, where there is one
 abbrev pub and_then : {X Y : Type 0} → Result X CallStop → (X → Result Y CallStop) → Result Y CallStop

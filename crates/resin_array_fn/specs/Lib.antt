@@ -1,3 +1,4 @@
 pub mod Filled
 pub mod Rows
 pub mod Searches
+pub mod Under

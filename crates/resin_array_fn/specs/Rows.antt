@@ -1,16 +1,16 @@
 -- The array functions (PHP manual, "Array Functions", in this project's profile), over the entries of arrays in their order.
 use Rattle.std.specs.Prelude.{ℤ, pos, Bool, false, List, [], ◌∷◌, map, reverse, length, Option, Result, Ok, Err}
 use Rattle.std.specs.List.{slice_range}
-use Rattle.resin_label.specs.Sets.{empty as no_labels}
-use Rattle.resin_lstr.specs.Texts.{Text as LabelledText, carrying}
-use Rattle.resin_scalar.specs.declared.faults.CallStop.{CallStop}
-use Rattle.resin_scalar.specs.declared.faults.CallStop.TheVariants.{Throw}
-use Rattle.resin_scalar.specs.declared.faults.ErrorKind.TheVariants.{«Type» as TypeError}
-use Rattle.resin_value.specs.declared.key.Key.{Key}
-use Rattle.resin_value.specs.declared.key.Key.TheVariants.{Int, Text}
-use Rattle.resin_value.specs.Trees.{Tree, null, boolean, integer, text, array, object}
-use Rattle.resin_value.specs.Arrays.{EntryList, Array, entries_of}
-use Rattle.resin_value.specs.Changes.{empty}
+use Rattle.resin_ops.specs.Under.label.Sets.{empty as no_labels}
+use Rattle.resin_ops.specs.Under.lstr.Texts.{Text as LabelledText, carrying}
+use Rattle.resin_ops.specs.Under.scalar.declared.faults.CallStop.{CallStop}
+use Rattle.resin_ops.specs.Under.scalar.declared.faults.CallStop.TheVariants.{Throw}
+use Rattle.resin_ops.specs.Under.scalar.declared.faults.ErrorKind.TheVariants.{«Type» as TypeError}
+use Rattle.resin_ops.specs.Under.value.declared.key.Key.{Key}
+use Rattle.resin_ops.specs.Under.value.declared.key.Key.TheVariants.{Int, Text}
+use Rattle.resin_ops.specs.Under.value.Trees.{Tree, null, boolean, integer, text, array, object}
+use Rattle.resin_ops.specs.Under.value.Arrays.{EntryList, Array, entries_of}
+use Rattle.resin_ops.specs.Under.value.Changes.{empty}
 use Rattle.resin_ops.specs.Conversions.{text_of}
 use Rattle.resin_text_fn.specs.Rows.{part_start, part_end}
 use Rattle.resin_array_fn.specs.Filled.{and_then, filled_on, filled, in_order, with_kept_keys}

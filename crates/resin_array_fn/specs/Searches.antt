@@ -1,14 +1,14 @@
 -- Searches in arrays (PHP manual, "in_array" and "array_key_exists").
 use Rattle.std.specs.Prelude.{ℕ, Bool, true, false, is_some, [], ◌∷◌, Result, Ok, Err}
-use Rattle.resin_scalar.specs.declared.faults.CallStop.{CallStop}
-use Rattle.resin_scalar.specs.declared.faults.CallStop.TheVariants.{Fault}
-use Rattle.resin_scalar.specs.declared.faults.ScriptFault.TheVariants.{FuelSpent, FloatNeeded, BadOperand, ObjectComparison}
-use Rattle.resin_value.specs.declared.compare.CompareFault.{CompareFault}
-use Rattle.resin_value.specs.declared.compare.CompareFault.TheVariants.{Object, Operand, Float, Spent as NoTick}
-use Rattle.resin_value.specs.Trees.{Tree}
-use Rattle.resin_value.specs.Arrays.{EntryList, Array}
-use Rattle.resin_value.specs.Changes.{lookup}
-use Rattle.resin_value.specs.Compare.{Charged, equal_trees, identical_trees}
+use Rattle.resin_ops.specs.Under.scalar.declared.faults.CallStop.{CallStop}
+use Rattle.resin_ops.specs.Under.scalar.declared.faults.CallStop.TheVariants.{Fault}
+use Rattle.resin_ops.specs.Under.scalar.declared.faults.ScriptFault.TheVariants.{FuelSpent, FloatNeeded, BadOperand, ObjectComparison}
+use Rattle.resin_ops.specs.Under.value.declared.compare.CompareFault.{CompareFault}
+use Rattle.resin_ops.specs.Under.value.declared.compare.CompareFault.TheVariants.{Object, Operand, Float, Spent as NoTick}
+use Rattle.resin_ops.specs.Under.value.Trees.{Tree}
+use Rattle.resin_ops.specs.Under.value.Arrays.{EntryList, Array}
+use Rattle.resin_ops.specs.Under.value.Changes.{lookup}
+use Rattle.resin_ops.specs.Under.value.Compare.{Charged, equal_trees, identical_trees}
 use Rattle.resin_ops.specs.Conversions.{key_of}
 use Rattle.resin_array_fn.specs.Filled.{and_then}
 

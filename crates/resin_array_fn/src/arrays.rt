@@ -1,16 +1,16 @@
 //! Arrays of the entries of others.
 ghost use Rattle.std.specs.Prelude.{◌≡◌, ◌≤◌, ◌^◌, length, reverse, IfOk, Ok};
-ghost use Rattle.resin_value.specs.Seen.{tree_of, trees_of};
+ghost use Rattle.resin_ops.specs.Under.value.Seen.{tree_of, trees_of};
 ghost use Rattle.resin_text_fn.specs.Stops.{GivesOrNoMemory};
 ghost use Rattle.resin_text_fn.specs.Rows.{part_start, part_end};
 ghost use Rattle.resin_array_fn.specs.Rows.{count, key_value, array_keys, array_values, array_merge, array_slice, array_reverse};
 ghost use Rattle.resin_array_fn.specs.Filled.{filled_on, with_kept_keys, and_then};
 
 use crate::fill::{with_entry, with_next, with_part};
-use resin_label::PSet;
-use resin_lstr::LText;
-use resin_scalar::{CallStop, ErrorKind};
-use resin_value::{Arr, Key, Value};
+use resin_ops::under::label::PSet;
+use resin_ops::under::lstr::LText;
+use resin_ops::under::scalar::{CallStop, ErrorKind};
+use resin_ops::under::value::{Arr, Key, Value};
 use std::alloc::{AllocError, Global};
 
 /// `count`: the number of entries. Want of memory stands for more than 9,223,372,036,854,775,807, which no memory holds.

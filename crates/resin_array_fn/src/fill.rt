@@ -1,13 +1,13 @@
 //! Arrays that are made of entries, one after the other.
 ghost use Rattle.std.specs.Prelude.{◌≡◌, ◌≤◌, None, Some, IsTrue, length};
 ghost use Rattle.std.specs.List.{slice_range};
-ghost use Rattle.resin_value.specs.Keys.{is_lawful};
-ghost use Rattle.resin_value.specs.Seen.{tree_of};
+ghost use Rattle.resin_ops.specs.Under.value.Keys.{is_lawful};
+ghost use Rattle.resin_ops.specs.Under.value.Seen.{tree_of};
 ghost use Rattle.resin_text_fn.specs.Stops.{GivesOrNoMemory};
 ghost use Rattle.resin_array_fn.specs.Filled.{array_stop, added_at, kept_key, filled_on, with_kept_keys};
 
-use resin_scalar::{CallStop, ErrorKind, ScriptFault};
-use resin_value::{Arr, ArrFault, Key, Value};
+use resin_ops::under::scalar::{CallStop, ErrorKind, ScriptFault};
+use resin_ops::under::value::{Arr, ArrFault, Key, Value};
 
 // Why nothing was put into an array, as the end of a call.
 fn array_stop(fault: ArrFault) -> CallStop

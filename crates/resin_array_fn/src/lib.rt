@@ -8,6 +8,7 @@ mod arrays;
 mod fill;
 mod search;
 mod texts;
+pub mod under;
 
 pub use arrays::{array_keys, array_merge, array_reverse, array_slice, array_values, count};
 pub use search::{array_key_exists, in_array};

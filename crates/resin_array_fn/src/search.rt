@@ -1,12 +1,12 @@
 //! Searches in arrays.
 ghost use Rattle.std.specs.Prelude.{◌≡◌};
-ghost use Rattle.resin_scalar.specs.Stops.{Gives};
-ghost use Rattle.resin_value.specs.Seen.{tree_of};
+ghost use Rattle.resin_ops.specs.Under.scalar.Stops.{Gives};
+ghost use Rattle.resin_ops.specs.Under.value.Seen.{tree_of};
 ghost use Rattle.resin_array_fn.specs.Searches.{compare_stop, fits, in_array, array_key_exists};
 
 use resin_ops::to_key;
-use resin_scalar::{CallStop, ScriptFault, Ticks};
-use resin_value::{Arr, CompareFault, Value, equal, identical};
+use resin_ops::under::scalar::{CallStop, ScriptFault, Ticks};
+use resin_ops::under::value::{Arr, CompareFault, Value, equal, identical};
 use std::alloc::Global;
 
 /// `in_array`: whether a value of the array is `needle`, by `===` where the search is strict, else by `==` with `needle` on the left. The first that fits ends

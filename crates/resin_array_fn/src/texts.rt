@@ -3,10 +3,10 @@ ghost use Rattle.resin_text_fn.specs.Stops.{GivesOrNoMemory};
 ghost use Rattle.resin_array_fn.specs.Rows.{values, texts_in, list_of_texts};
 
 use crate::fill::with_next;
-use resin_lstr::{LText, Texts};
 use resin_ops::to_text;
-use resin_scalar::CallStop;
-use resin_value::{Arr, Value};
+use resin_ops::under::lstr::{LText, Texts};
+use resin_ops::under::scalar::CallStop;
+use resin_ops::under::value::{Arr, Value};
 use std::alloc::Global;
 
 /// The values of an array as texts, in order. `BadOperand` comes exactly where one is an array or an object.

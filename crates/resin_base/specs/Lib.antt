@@ -4,7 +4,4 @@ pub mod FileStore
 pub mod TableStore
 pub mod Moves
 pub mod Numbering
-pub mod Tallies
 pub mod Places
-pub mod Codes
-pub mod Fakes

@@ -164,14 +164,14 @@ impl Rows {
     }
 
     /// Whether some row has a number.
-    pub(crate) fn has(&self, number: u64) -> bool
+    pub fn has(&self, number: u64) -> bool
         ensures { result ≡ has_number self.now number }
     {
         self.items.iter().any(|row| row.number == number)
     }
 
     /// The largest number of a row, 0 where there is none.
-    pub(crate) fn last_number(&self) -> u64
+    pub fn last_number(&self) -> u64
         requires { IsTrue (rise_from 0 self.now) }
         ensures { result ≡ largest_number self.now }
     {
@@ -182,7 +182,7 @@ impl Rows {
     }
 
     /// Sets the cells of the row of a number, if it is there.
-    pub(crate) fn set_cells(&mut self, number: u64, cells: Cells)
+    pub fn set_cells(&mut self, number: u64, cells: Cells)
         requires { IsTrue (rise_from 0 self.old) }
         ensures { self.new ≡ map (with_cells number cells) self.old }
     {
@@ -193,7 +193,7 @@ impl Rows {
     }
 
     /// Takes out the row of a number.
-    pub(crate) fn take_out(&mut self, number: u64)
+    pub fn take_out(&mut self, number: u64)
         ensures { self.new ≡ without_number number self.old }
     {
         self.items.retain(|row| row.number != number);

@@ -54,7 +54,7 @@ impl FailList {
     }
 
     /// Whether a number is listed.
-    pub(crate) fn lists(&self, number: u64) -> bool
+    pub fn lists(&self, number: u64) -> bool
         ensures { result ≡ is_listed self.now number }
     {
         self.items.as_slice().contains(&number)

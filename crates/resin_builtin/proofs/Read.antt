@@ -2,13 +2,13 @@
 use Rattle.std.proofs.Common.{◌≡◌, ℕ, ◌<◌, Bool, true, List, [], ◌∷◌, ◌++◌, length, Some, Result, Ok, refl, sym, ap, subst, ◌∙◌, arith}
 use Rattle.std.specs.Prelude.{map}
 use Rattle.std.proofs.lemmas.List.{append-nil}
-use Rattle.resin_scalar.specs.declared.faults.CallStop.{CallStop}
-use Rattle.resin_value.specs.declared.value.Value.{Value}
-use Rattle.resin_value.specs.declared.value.Value.TheVariants.{Arr}
-use Rattle.resin_value.specs.Arrays.{EntryList, Array, entries_of-row_of}
-use Rattle.resin_value.specs.Trees.{Tree}
-use Rattle.resin_value.specs.Seen.{tree_of, trees_of}
-use Rattle.resin_text_fn.specs.Stops.{GivesOrNoMemory}
+use Rattle.resin_format.specs.Under.scalar.declared.faults.CallStop.{CallStop}
+use Rattle.resin_array_fn.specs.Under.value.declared.value.Value.{Value}
+use Rattle.resin_array_fn.specs.Under.value.declared.value.Value.TheVariants.{Arr}
+use Rattle.resin_array_fn.specs.Under.value.Arrays.{EntryList, Array, entries_of-row_of}
+use Rattle.resin_array_fn.specs.Under.value.Trees.{Tree}
+use Rattle.resin_array_fn.specs.Under.value.Seen.{tree_of, trees_of}
+use Rattle.resin_array_fn.specs.Under.text_fn.Stops.{GivesOrNoMemory}
 use Rattle.resin_format.specs.declared.form.Kind.{Kind}
 use Rattle.resin_format.specs.declared.args.FormatArg.{FormatArg}
 use Rattle.resin_array_fn.specs.Rows.{values, texts_in}

@@ -1,14 +1,14 @@
 -- Arguments of a call that were turned into their kinds already. Where one isn't there or is of another kind, TypeError is thrown.
 use Rattle.std.specs.Prelude.{ℕ, ℤ, Bool, false, List, Option, Some, None, Result, Ok, Err}
 use Rattle.std.specs.List.{slice_get}
-use Rattle.resin_label.specs.Sets.{NumberSet}
-use Rattle.resin_lstr.specs.Texts.{Text as LabelledText}
-use Rattle.resin_scalar.specs.declared.faults.CallStop.{CallStop}
-use Rattle.resin_scalar.specs.declared.faults.CallStop.TheVariants.{Throw}
-use Rattle.resin_scalar.specs.declared.faults.ErrorKind.TheVariants.{«Type» as TypeError}
-use Rattle.resin_value.specs.Trees.{Tree, null, integer, text, array}
-use Rattle.resin_value.specs.Arrays.{Array, entries_of}
-use Rattle.resin_value.specs.Compare.{is_true}
+use Rattle.resin_format.specs.Under.label.Sets.{NumberSet}
+use Rattle.resin_format.specs.Under.lstr.Texts.{Text as LabelledText}
+use Rattle.resin_format.specs.Under.scalar.declared.faults.CallStop.{CallStop}
+use Rattle.resin_format.specs.Under.scalar.declared.faults.CallStop.TheVariants.{Throw}
+use Rattle.resin_format.specs.Under.scalar.declared.faults.ErrorKind.TheVariants.{«Type» as TypeError}
+use Rattle.resin_array_fn.specs.Under.value.Trees.{Tree, null, integer, text, array}
+use Rattle.resin_array_fn.specs.Under.value.Arrays.{Array, entries_of}
+use Rattle.resin_array_fn.specs.Under.value.Compare.{is_true}
 
 -- a text
 abbrev pub as_text : Option Tree → Result LabelledText CallStop

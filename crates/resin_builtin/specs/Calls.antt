@@ -1,15 +1,15 @@
 -- Calls of builtin functions, with what they cost.
 use Rattle.std.specs.Prelude.{ℕ, ◌-◌, ◌/◌, nat_lt, Bool, true, false, not, if◌then◌else◌, List, [], ◌∷◌, map, replicate, length, sum_by, Option, Some, None, Result, Ok, Err}
-use Rattle.resin_label.specs.Sets.{NumberSet}
-use Rattle.resin_lstr.specs.Texts.{Text as LabelledText}
-use Rattle.resin_scalar.specs.declared.faults.CallStop.{CallStop}
-use Rattle.resin_scalar.specs.declared.faults.CallStop.TheVariants.{Throw, Fault}
-use Rattle.resin_scalar.specs.declared.faults.ErrorKind.TheVariants.{«Type» as TypeError, ArgumentCount}
-use Rattle.resin_scalar.specs.declared.faults.ScriptFault.TheVariants.{FuelSpent, UndefinedFunction}
-use Rattle.resin_value.specs.Trees.{Tree, boolean, text, array, object}
-use Rattle.resin_value.specs.Arrays.{entries_of}
-use Rattle.resin_ops.specs.Conversions.{text_of}
-use Rattle.resin_text_fn.specs.Rows as texts
+use Rattle.resin_format.specs.Under.label.Sets.{NumberSet}
+use Rattle.resin_format.specs.Under.lstr.Texts.{Text as LabelledText}
+use Rattle.resin_format.specs.Under.scalar.declared.faults.CallStop.{CallStop}
+use Rattle.resin_format.specs.Under.scalar.declared.faults.CallStop.TheVariants.{Throw, Fault}
+use Rattle.resin_format.specs.Under.scalar.declared.faults.ErrorKind.TheVariants.{«Type» as TypeError, ArgumentCount}
+use Rattle.resin_format.specs.Under.scalar.declared.faults.ScriptFault.TheVariants.{FuelSpent, UndefinedFunction}
+use Rattle.resin_array_fn.specs.Under.value.Trees.{Tree, boolean, text, array, object}
+use Rattle.resin_array_fn.specs.Under.value.Arrays.{entries_of}
+use Rattle.resin_array_fn.specs.Under.ops.Conversions.{text_of}
+use Rattle.resin_array_fn.specs.Under.text_fn.Rows as texts
 use Rattle.resin_array_fn.specs.Rows as arrays
 use Rattle.resin_array_fn.specs.Searches as searches
 use Rattle.resin_builtin.specs.declared.builtin.Builtin.{Builtin}

@@ -4,3 +4,4 @@ pub mod Arguments
 pub mod Rows
 pub mod Calls
 pub mod Turns
+pub mod Under

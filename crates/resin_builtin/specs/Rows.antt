@@ -3,26 +3,26 @@ use Rattle.std.specs.Prelude.{ℤ, pos, ◌-ℤ◌, Bool, true, false, if◌then
 use Rattle.std.specs.Ordering.{int_eq}
 use Rattle.std.specs.Int.{is_negative}
 use Rattle.std.specs.List.{slice_get}
-use Rattle.resin_label.specs.Sets.{NumberSet, empty}
-use Rattle.resin_lstr.specs.Texts.{Text as LabelledText, carrying, bytes_of}
-use Rattle.resin_bytes.specs.declared.number.NumberForm.{NumberForm}
-use Rattle.resin_bytes.specs.declared.number.NumberForm.TheVariants.{Int as IntForm, Float as FloatForm, Not as NoForm}
-use Rattle.resin_bytes.specs.Numbers.{numeric_form}
-use Rattle.resin_scalar.specs.declared.faults.CallStop.{CallStop}
-use Rattle.resin_scalar.specs.declared.faults.CallStop.TheVariants.{Throw, Fault}
-use Rattle.resin_scalar.specs.declared.faults.ErrorKind.TheVariants.{DivisionByZero, Arithmetic}
-use Rattle.resin_scalar.specs.declared.faults.ScriptFault.{ScriptFault}
-use Rattle.resin_scalar.specs.declared.faults.ScriptFault.TheVariants.{IntegerOverflow, UndefinedFunction}
-use Rattle.resin_value.specs.Trees.{Tree, null, boolean, integer, text, array, object}
-use Rattle.resin_value.specs.Arrays.{Array, row_of}
-use Rattle.resin_ops.specs.Conversions.{text_of, int_of_value}
-use Rattle.resin_ops.specs.Arithmetic.{fits}
-use Rattle.resin_text_fn.specs.Rows as texts
-use Rattle.resin_text_fn.specs.Stops.{fitting}
-use Rattle.resin_escape_fn.specs.Escapes.{escaped, html_entity, slashed, sql_literal, url_escape, raw_url_escape, hex_pair}
-use Rattle.resin_escape_fn.specs.LineBreaks.{with_breaks}
-use Rattle.resin_escape_fn.specs.Digests.{md5_digest, sha1_digest}
-use Rattle.resin_escape_fn.specs.Characters.{character, first_byte}
+use Rattle.resin_format.specs.Under.label.Sets.{NumberSet, empty}
+use Rattle.resin_format.specs.Under.lstr.Texts.{Text as LabelledText, carrying, bytes_of}
+use Rattle.resin_format.specs.Under.bytes.declared.number.NumberForm.{NumberForm}
+use Rattle.resin_format.specs.Under.bytes.declared.number.NumberForm.TheVariants.{Int as IntForm, Float as FloatForm, Not as NoForm}
+use Rattle.resin_format.specs.Under.bytes.Numbers.{numeric_form}
+use Rattle.resin_format.specs.Under.scalar.declared.faults.CallStop.{CallStop}
+use Rattle.resin_format.specs.Under.scalar.declared.faults.CallStop.TheVariants.{Throw, Fault}
+use Rattle.resin_format.specs.Under.scalar.declared.faults.ErrorKind.TheVariants.{DivisionByZero, Arithmetic}
+use Rattle.resin_format.specs.Under.scalar.declared.faults.ScriptFault.{ScriptFault}
+use Rattle.resin_format.specs.Under.scalar.declared.faults.ScriptFault.TheVariants.{IntegerOverflow, UndefinedFunction}
+use Rattle.resin_array_fn.specs.Under.value.Trees.{Tree, null, boolean, integer, text, array, object}
+use Rattle.resin_array_fn.specs.Under.value.Arrays.{Array, row_of}
+use Rattle.resin_array_fn.specs.Under.ops.Conversions.{text_of, int_of_value}
+use Rattle.resin_array_fn.specs.Under.ops.Arithmetic.{fits}
+use Rattle.resin_array_fn.specs.Under.text_fn.Rows as texts
+use Rattle.resin_array_fn.specs.Under.text_fn.Stops.{fitting}
+use Rattle.resin_format.specs.Under.escape_fn.Escapes.{escaped, html_entity, slashed, sql_literal, url_escape, raw_url_escape, hex_pair}
+use Rattle.resin_format.specs.Under.escape_fn.LineBreaks.{with_breaks}
+use Rattle.resin_format.specs.Under.escape_fn.Digests.{md5_digest, sha1_digest}
+use Rattle.resin_format.specs.Under.escape_fn.Characters.{character, first_byte}
 use Rattle.resin_format.specs.declared.form.Kind.{Kind}
 use Rattle.resin_format.specs.declared.form.Kind.TheVariants.{Text as TextKind, Decimal, Hexadecimal}
 use Rattle.resin_format.specs.declared.args.FormatArg.{FormatArg}

@@ -4,7 +4,7 @@ use Rattle.std.specs.List.{slice_get}
 use Rattle.resin_builtin.specs.declared.builtin.Builtin.{Builtin}
 use Rattle.resin_builtin.specs.declared.builtin.Builtin.TheVariants.{OneText, Digest, TwoTexts, Trim, OneInteger, Test, OneArray, Substr, Strpos, StrReplace, StrRepeat, Implode, StrPad, Sprintf, Intval, Intdiv, GetClass, ArrayMerge, ArraySlice, ArrayReverse, InArray, ArrayKeyExists}
 use Rattle.resin_builtin.specs.declared.signatures.ArgKind.{ArgKind}
-use Rattle.resin_builtin.specs.declared.signatures.ArgKind.TheVariants.{Text, Integer, Array, Any}
+use Rattle.resin_builtin.specs.declared.signatures.ArgKind.TheVariants.{Text, Integer, Array, TextOrArray, Any}
 use Rattle.resin_builtin.specs.declared.signatures.Sig.{Sig}
 
 -- the arguments that must stand, those that may be left out, and those that may follow
@@ -26,8 +26,8 @@ parameters (Test kind) = takes (Any ∷ []) [] None
 parameters (OneArray row) = takes (Array ∷ []) [] None
 parameters Substr = takes (Text ∷ Integer ∷ []) (Integer ∷ []) None
 parameters Strpos = takes (Text ∷ Text ∷ []) (Integer ∷ []) None
--- what is searched and what it becomes: texts or arrays
-parameters StrReplace = takes (Any ∷ Any ∷ Text ∷ []) [] None
+-- what is searched, what it becomes, and where
+parameters StrReplace = takes (TextOrArray ∷ TextOrArray ∷ Text ∷ []) [] None
 parameters StrRepeat = takes (Text ∷ Integer ∷ []) [] None
 parameters Implode = takes (Text ∷ Array ∷ []) [] None
 parameters StrPad = takes (Text ∷ Integer ∷ []) (Text ∷ Integer ∷ []) None

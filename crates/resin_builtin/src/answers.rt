@@ -1,15 +1,15 @@
 //! Answers as values. Lengths, places and booleans carry nothing.
 ghost use Rattle.std.specs.Prelude.{◌≡◌};
-ghost use Rattle.resin_value.specs.Seen.{tree_of};
-ghost use Rattle.resin_value.specs.Trees.{text};
-ghost use Rattle.resin_ops.specs.Places.{seen_answer};
+ghost use Rattle.resin_array_fn.specs.Under.value.Seen.{tree_of};
+ghost use Rattle.resin_array_fn.specs.Under.value.Trees.{text};
+ghost use Rattle.resin_array_fn.specs.Under.ops.Places.{seen_answer};
 ghost use Rattle.resin_builtin.specs.Rows.{mapped, number, place, tree_of_array};
-ghost use Rattle.resin_value.specs.Trees.{boolean};
+ghost use Rattle.resin_array_fn.specs.Under.value.Trees.{boolean};
 
-use resin_label::PSet;
-use resin_lstr::LText;
-use resin_scalar::CallStop;
-use resin_value::{Arr, Value};
+use resin_array_fn::under::value::{Arr, Value};
+use resin_format::under::label::PSet;
+use resin_format::under::lstr::LText;
+use resin_format::under::scalar::CallStop;
 
 pub(crate) fn number(n: i64) -> Value
     ensures { tree_of result ≡ number n }

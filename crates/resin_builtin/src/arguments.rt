@@ -2,12 +2,12 @@
 ghost use Rattle.std.specs.Prelude.{◌≡◌, ℕ, Ok, Err, Some, None, MatchResult};
 ghost use Rattle.std.specs.List.{slice_get};
 ghost use Rattle.std.specs.Option.{option_map};
-ghost use Rattle.resin_value.specs.Seen.{tree_of, trees_of};
+ghost use Rattle.resin_array_fn.specs.Under.value.Seen.{tree_of, trees_of};
 ghost use Rattle.resin_builtin.specs.Arguments.{as_text, as_number, as_integer, as_array, as_count, text_at, number_at, integer_at, array_at, value_at, count_at, flag_at, or_default};
 
-use resin_lstr::LText;
-use resin_scalar::{CallStop, ErrorKind};
-use resin_value::{Arr, Value};
+use resin_array_fn::under::value::{Arr, Value};
+use resin_format::under::lstr::LText;
+use resin_format::under::scalar::{CallStop, ErrorKind};
 
 fn as_text(value: &Value) -> Result<&LText, CallStop>
     ensures { MatchResult result (λ t. as_text (Some (tree_of value.now)) ≡ Ok t.now) (λ stop. as_text (Some (tree_of value.now)) ≡ Err stop) }

@@ -1,19 +1,19 @@
 //! The functions of arrays.
 ghost use Rattle.std.specs.Prelude.{◌≡◌};
-ghost use Rattle.resin_value.specs.Seen.{trees_of};
-ghost use Rattle.resin_ops.specs.Places.{seen_answer};
-ghost use Rattle.resin_text_fn.specs.Stops.{GivesOrNoMemory};
+ghost use Rattle.resin_array_fn.specs.Under.value.Seen.{trees_of};
+ghost use Rattle.resin_array_fn.specs.Under.ops.Places.{seen_answer};
+ghost use Rattle.resin_array_fn.specs.Under.text_fn.Stops.{GivesOrNoMemory};
 ghost use Rattle.resin_builtin.specs.Rows.{array_row, array_slice_row, array_reverse_row, array_key_exists_row};
 ghost use Rattle.resin_builtin.specs.Calls.{in_array_row};
 
 use crate::answers::{array_value, bool_value, number_value};
 use crate::arguments::{array_at, count_at, flag_at, number_at, value_at};
 use crate::builtin::OneArray;
+use resin_array_fn::under::value::{Arr, Value};
 use resin_array_fn::{
     array_key_exists, array_keys, array_reverse, array_slice, array_values, count, in_array,
 };
-use resin_scalar::{CallStop, Ticks};
-use resin_value::{Arr, Value};
+use resin_format::under::scalar::{CallStop, Ticks};
 use std::alloc::Global;
 
 // A function of one array.

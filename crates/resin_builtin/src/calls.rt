@@ -1,9 +1,9 @@
 //! Calls of builtin functions.
 ghost use Rattle.std.specs.Prelude.{◌≡◌, ◌+◌, ◌<◌, Err, OnOk, OnErr, sum_by};
-ghost use Rattle.resin_value.specs.Seen.{tree_of, trees_of};
-ghost use Rattle.resin_ops.specs.Places.{seen_answer};
-ghost use Rattle.resin_text_fn.specs.Stops.{GivesOrNoMemory, GivesCharged};
-ghost use Rattle.resin_label.specs.Sets.{empty};
+ghost use Rattle.resin_array_fn.specs.Under.value.Seen.{tree_of, trees_of};
+ghost use Rattle.resin_array_fn.specs.Under.ops.Places.{seen_answer};
+ghost use Rattle.resin_array_fn.specs.Under.text_fn.Stops.{GivesOrNoMemory, GivesCharged};
+ghost use Rattle.resin_format.specs.Under.label.Sets.{empty};
 ghost use Rattle.resin_builtin.specs.Names.{builtin_named};
 ghost use Rattle.resin_builtin.specs.Rows.{row_of_builtin};
 ghost use Rattle.resin_builtin.specs.Calls.{cost, work, called, call_of};
@@ -24,9 +24,9 @@ use crate::text_rows::{
 };
 use crate::value_rows::{intdiv_row, integer_row, intval_row, tested};
 use resin_array_fn::array_merge;
-use resin_label::PSet;
-use resin_scalar::{CallStop, ErrorKind, ScriptFault, Spent, Ticks};
-use resin_value::{Value, Values};
+use resin_array_fn::under::value::{Value, Values};
+use resin_format::under::label::PSet;
+use resin_format::under::scalar::{CallStop, ErrorKind, ScriptFault, Spent, Ticks};
 use std::alloc::Global;
 
 /// Calls a builtin function by its name, in any case of ASCII letters, with arguments that were turned into their kinds. `set` is what `md5`, `sha1` and

@@ -1,16 +1,16 @@
 //! `sprintf`.
 ghost use Rattle.std.specs.Prelude.{◌≡◌, Some};
-ghost use Rattle.resin_value.specs.Seen.{tree_of, trees_of};
-ghost use Rattle.resin_ops.specs.Places.{seen_answer};
-ghost use Rattle.resin_text_fn.specs.Stops.{GivesOrNoMemory};
+ghost use Rattle.resin_array_fn.specs.Under.value.Seen.{tree_of, trees_of};
+ghost use Rattle.resin_array_fn.specs.Under.ops.Places.{seen_answer};
+ghost use Rattle.resin_array_fn.specs.Under.text_fn.Stops.{GivesOrNoMemory};
 ghost use Rattle.resin_builtin.specs.Rows.{format_argument, format_arguments, behind_first, sprintf_row};
 
 use crate::answers::text_value;
 use crate::arguments::text_at;
+use resin_array_fn::under::ops::to_text;
+use resin_array_fn::under::value::Value;
+use resin_format::under::scalar::{CallStop, ErrorKind};
 use resin_format::{FormatArg, FormatArgs, Kind, argument_kinds, sprintf};
-use resin_ops::to_text;
-use resin_scalar::{CallStop, ErrorKind};
-use resin_value::Value;
 use std::alloc::Global;
 
 pub(crate) fn sprintf_row(alloc: Global, args: &[Value]) -> Result<Value, CallStop>

@@ -2,7 +2,7 @@
 //!
 //! A caller looks the name up by `signature`, tests the count of the arguments by `Sig::takes`, turns each by `Sig::turned`, merges labels where
 //! `Sig::merges` says so, and then makes the `call`. For the arguments of `sprintf` behind its format it asks `int_places`, and turns those that are read as
-//! integers by `resin_ops::to_int`. `get_class` reads the classes of objects, so that its caller evaluates it.
+//! integers by `resin_array_fn::under::ops::to_int`. `get_class` reads the classes of objects, so that its caller evaluates it.
 #![tactic(auto)]
 
 mod answers;
@@ -16,6 +16,7 @@ mod replace_row;
 mod signatures;
 mod text_rows;
 mod turns;
+pub mod under;
 mod value_rows;
 
 pub use builtin::{Builtin, Digest, OneArray, OneInteger, OneText, Test, TrimSide, TwoTexts};

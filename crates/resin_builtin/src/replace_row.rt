@@ -1,19 +1,19 @@
 //! `str_replace`.
 ghost use Rattle.std.specs.Prelude.{◌≡◌, IfOk, replicate};
-ghost use Rattle.resin_value.specs.Seen.{tree_of, trees_of};
-ghost use Rattle.resin_ops.specs.Places.{seen_answer};
-ghost use Rattle.resin_text_fn.specs.Stops.{GivesOrNoMemory, GivesCharged};
+ghost use Rattle.resin_array_fn.specs.Under.value.Seen.{tree_of, trees_of};
+ghost use Rattle.resin_array_fn.specs.Under.ops.Places.{seen_answer};
+ghost use Rattle.resin_array_fn.specs.Under.text_fn.Stops.{GivesOrNoMemory, GivesCharged};
 ghost use Rattle.resin_builtin.specs.Rows.{is_array};
 ghost use Rattle.resin_builtin.specs.Calls.{searches_in, replacements_in, str_replace_row};
 
 use crate::answers::text_value;
 use crate::arguments::{text_at, value_at};
 use resin_array_fn::texts_in;
-use resin_lstr::{LText, Texts};
-use resin_ops::to_text;
-use resin_scalar::{CallStop, ErrorKind, Ticks};
-use resin_text_fn::str_replace;
-use resin_value::Value;
+use resin_array_fn::under::ops::to_text;
+use resin_array_fn::under::text_fn::str_replace;
+use resin_array_fn::under::value::Value;
+use resin_format::under::lstr::{LText, Texts};
+use resin_format::under::scalar::{CallStop, ErrorKind, Ticks};
 use std::alloc::{AllocError, Global};
 
 // `str_replace`, which charges each search.

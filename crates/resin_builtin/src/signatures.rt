@@ -17,6 +17,8 @@ pub enum ArgKind {
     Integer,
     /// An array; everything else throws `TypeError`.
     Array,
+    /// An array as it is, everything else by the text rule; an object throws `TypeError`.
+    TextOrArray,
     /// As it is.
     Any,
 }
@@ -104,7 +106,7 @@ impl Sig {
 fn kind_of(builtin: Builtin, i: usize) -> ArgKind
     ensures { result ≡ kind_at (parameters builtin) i }
 {
-    use ArgKind::{Any, Array, Integer, Text};
+    use ArgKind::{Any, Array, Integer, Text, TextOrArray};
     match builtin {
         Builtin::OneText(_) | Builtin::Digest(_) => nth(&[Text], Any, i),
         Builtin::TwoTexts(_) | Builtin::Trim(_) => nth(&[Text, Text], Any, i),
@@ -113,7 +115,7 @@ fn kind_of(builtin: Builtin, i: usize) -> ArgKind
         Builtin::OneArray(_) => nth(&[Array], Any, i),
         Builtin::Substr => nth(&[Text, Integer, Integer], Any, i),
         Builtin::Strpos => nth(&[Text, Text, Integer], Any, i),
-        Builtin::StrReplace => nth(&[Any, Any, Text], Any, i),
+        Builtin::StrReplace => nth(&[TextOrArray, TextOrArray, Text], Any, i),
         Builtin::StrRepeat => nth(&[Text, Integer], Any, i),
         Builtin::Implode => nth(&[Text, Array], Any, i),
         Builtin::StrPad => nth(&[Text, Integer, Text, Integer], Any, i),

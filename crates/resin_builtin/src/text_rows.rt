@@ -1,31 +1,31 @@
 //! The functions of texts.
-ghost use Rattle.resin_value.specs.Seen.{trees_of};
-ghost use Rattle.resin_ops.specs.Places.{seen_answer};
-ghost use Rattle.resin_text_fn.specs.Stops.{GivesOrNoMemory};
+ghost use Rattle.resin_array_fn.specs.Under.value.Seen.{trees_of};
+ghost use Rattle.resin_array_fn.specs.Under.ops.Places.{seen_answer};
+ghost use Rattle.resin_array_fn.specs.Under.text_fn.Stops.{GivesOrNoMemory};
 ghost use Rattle.resin_builtin.specs.Arguments.{text_at};
 ghost use Rattle.resin_array_fn.specs.Filled.{and_then};
 ghost use Rattle.std.specs.Prelude.{◌≡◌, Ok, IfOk};
-ghost use Rattle.resin_label.specs.Sets.{empty};
-ghost use Rattle.resin_lstr.specs.Texts.{carrying};
+ghost use Rattle.resin_format.specs.Under.label.Sets.{empty};
+ghost use Rattle.resin_format.specs.Under.lstr.Texts.{carrying};
 ghost use Rattle.resin_builtin.specs.Rows.{trimmed, one_text_row, digest_row, two_text_row, trim_row, substr_row, strpos_row, str_repeat_row, implode_row, str_pad_row};
 
 use crate::answers::{array_value, bool_value, number_value, place_value, text_value};
 use crate::arguments::{array_at, count_at, number_at, number_or, text_at, text_or};
 use crate::builtin::{Digest, OneText, TrimSide, TwoTexts};
-use resin_array_fn::{list_of_texts, texts_in};
-use resin_escape_fn::{
-    addslashes, bin2hex, htmlspecialchars, md5, nl2br, ord, rawurlencode, sha1, sql_quote,
-    urlencode,
-};
-use resin_label::PSet;
-use resin_lstr::LText;
-use resin_scalar::CallStop;
-use resin_text_fn::{
+use resin_array_fn::under::text_fn::{
     explode, implode, ltrim, rtrim, str_contains, str_ends_with, str_pad, str_repeat,
     str_starts_with, strcmp, strlen, strpos, strrev, strrpos, strtolower, strtoupper, substr,
     substr_count, trim, ucfirst,
 };
-use resin_value::Value;
+use resin_array_fn::under::value::Value;
+use resin_array_fn::{list_of_texts, texts_in};
+use resin_format::under::escape_fn::{
+    addslashes, bin2hex, htmlspecialchars, md5, nl2br, ord, rawurlencode, sha1, sql_quote,
+    urlencode,
+};
+use resin_format::under::label::PSet;
+use resin_format::under::lstr::LText;
+use resin_format::under::scalar::CallStop;
 use std::alloc::{AllocError, Global};
 
 // A function of one text.

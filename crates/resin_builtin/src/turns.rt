@@ -1,16 +1,16 @@
 //! How arguments are turned into their kinds.
 ghost use Rattle.std.specs.Prelude.{◌≡◌};
-ghost use Rattle.resin_value.specs.Seen.{tree_of};
-ghost use Rattle.resin_ops.specs.Places.{seen_answer};
-ghost use Rattle.resin_text_fn.specs.Stops.{GivesOrNoMemory};
+ghost use Rattle.resin_array_fn.specs.Under.value.Seen.{tree_of};
+ghost use Rattle.resin_array_fn.specs.Under.ops.Places.{seen_answer};
+ghost use Rattle.resin_array_fn.specs.Under.text_fn.Stops.{GivesOrNoMemory};
 ghost use Rattle.resin_builtin.specs.Signatures.{parameters, kind_at, null_is_default};
-ghost use Rattle.resin_builtin.specs.Turns.{turned, turned_into, turned_text, turned_integer, turned_array, integer_in_text};
+ghost use Rattle.resin_builtin.specs.Turns.{turned, turned_into, turned_text, turned_integer, turned_array, turned_text_or_array, integer_in_text};
 
 use crate::answers::{number, text_value};
 use crate::signatures::{ArgKind, Sig};
-use resin_ops::to_text;
-use resin_scalar::{CallStop, ErrorKind, NumFault, Scalar, ScriptFault};
-use resin_value::Value;
+use resin_array_fn::under::ops::to_text;
+use resin_array_fn::under::value::Value;
+use resin_format::under::scalar::{CallStop, ErrorKind, NumFault, Scalar, ScriptFault};
 use std::alloc::Global;
 
 impl Sig {
@@ -34,6 +34,7 @@ fn turned_into(alloc: Global, kind: ArgKind, value: &Value) -> Result<Value, Cal
         ArgKind::Text => turned_text(alloc, value),
         ArgKind::Integer => turned_integer(value),
         ArgKind::Array => turned_array(value),
+        ArgKind::TextOrArray => turned_text_or_array(alloc, value),
         ArgKind::Any => Ok(value.clone()?),
     }
 }
@@ -56,7 +57,9 @@ fn turned_integer(value: &Value) -> Result<Value, CallStop>
         Value::Null => Ok(number(0)),
         Value::Bool(b) => Ok(number(i64::from(*b))),
         Value::Int(n, set) => Ok(Value::Int(*n, set.clone()?)),
-        Value::Text(text) => integer_in_text(resin_scalar::number(&Scalar::Text(text.bytes()))),
+        Value::Text(text) => integer_in_text(resin_format::under::scalar::number(&Scalar::Text(
+            text.bytes(),
+        ))),
         Value::Arr(_) | Value::Obj(_) => Err(CallStop::Throw(ErrorKind::Type)),
     }
 }
@@ -79,6 +82,18 @@ fn turned_array(value: &Value) -> Result<Value, CallStop>
         Value::Arr(array) => Ok(Value::Arr(array.clone()?)),
         Value::Null | Value::Bool(_) | Value::Int(_, _) | Value::Text(_) | Value::Obj(_) => {
             Err(CallStop::Throw(ErrorKind::Type))
+        }
+    }
+}
+
+fn turned_text_or_array(alloc: Global, value: &Value) -> Result<Value, CallStop>
+    ensures { GivesOrNoMemory (seen_answer result) (turned_text_or_array (tree_of value.now)) }
+{
+    match value {
+        Value::Arr(array) => Ok(Value::Arr(array.clone()?)),
+        Value::Obj(_) => Err(CallStop::Throw(ErrorKind::Type)),
+        Value::Null | Value::Bool(_) | Value::Int(_, _) | Value::Text(_) => {
+            text_value(to_text(alloc, value))
         }
     }
 }

@@ -1,8 +1,8 @@
 //! The functions of integers and of any values.
 ghost use Rattle.std.specs.Prelude.{◌≡◌, Ok};
-ghost use Rattle.resin_value.specs.Seen.{tree_of, trees_of};
-ghost use Rattle.resin_ops.specs.Places.{seen_answer};
-ghost use Rattle.resin_text_fn.specs.Stops.{GivesOrNoMemory};
+ghost use Rattle.resin_array_fn.specs.Under.value.Seen.{tree_of, trees_of};
+ghost use Rattle.resin_array_fn.specs.Under.ops.Places.{seen_answer};
+ghost use Rattle.resin_array_fn.specs.Under.text_fn.Stops.{GivesOrNoMemory};
 ghost use Rattle.resin_array_fn.specs.Filled.{and_then};
 ghost use Rattle.resin_builtin.specs.Arguments.{as_integer};
 ghost use Rattle.resin_builtin.specs.Rows.{integer_row, magnitude, intval_row, quotient, intdiv_row, is_numeric, is_number_form, tested};
@@ -11,12 +11,12 @@ ghost use Rattle.std.specs.Prelude.{Some};
 use crate::answers::{number, text_value};
 use crate::arguments::number_at;
 use crate::builtin::{OneInteger, Test};
-use resin_bytes::{NumberForm, numeric};
-use resin_escape_fn::chr;
-use resin_label::PSet;
-use resin_ops::to_int;
-use resin_scalar::{CallStop, ErrorKind, ScriptFault};
-use resin_value::Value;
+use resin_array_fn::under::ops::to_int;
+use resin_array_fn::under::value::Value;
+use resin_format::under::bytes::{NumberForm, numeric};
+use resin_format::under::escape_fn::chr;
+use resin_format::under::label::PSet;
+use resin_format::under::scalar::{CallStop, ErrorKind, ScriptFault};
 use std::alloc::Global;
 
 // A function of one integer, whose answer carries its labels.

@@ -7,11 +7,11 @@
 
 ghost use Rattle.std.specs.Prelude.{◌<◌, length};
 
+use resin_builtin::under::label::PSet;
+use resin_builtin::under::lstr::{Builder, LText, TextFault};
+use resin_builtin::under::scalar::{CallStop, ScriptFault, Ticks};
+use resin_builtin::under::value::{Arr, ArrFault, Key, Value, Values};
 use resin_builtin::{ArgKind, Sig, call, int_places, signature};
-use resin_label::PSet;
-use resin_lstr::{Builder, LText, TextFault};
-use resin_scalar::{CallStop, ScriptFault, Ticks};
-use resin_value::{Arr, ArrFault, Key, Value, Values};
 use std::alloc::{AllocError, Global};
 use std::io;
 
@@ -339,6 +339,7 @@ fn letter(kind: ArgKind) -> char {
         ArgKind::Text => 's',
         ArgKind::Integer => 'i',
         ArgKind::Array => 'a',
+        ArgKind::TextOrArray => 't',
         ArgKind::Any => 'v',
     }
 }

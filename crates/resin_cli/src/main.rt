@@ -4,8 +4,8 @@
 mod fault;
 
 use crate::fault::Fault;
-use resin_base::CalmTables;
 use resin_edge::{Folder, StdSink, StdSource};
+use resin_memory::CalmTables;
 use resin_serve::{Ended, serve};
 use std::fs::{File, OpenOptions};
 use std::process::ExitCode;

@@ -8,9 +8,13 @@ use std::io::ErrorKind;
 use std::rt::Files as SystemFiles;
 use std::{fs, io};
 
-/// A folder of the system as a keeper of files. The path `a/b` is kept in `root/a/b` and its shadow text in `root/.resin/a/b`, which is
-/// written first. A folder that isn't there reads as empty, and missing folders are made by a write. A stop of the process between
-/// the two writes isn't covered.
+/// A folder of the system as a keeper of files. The path `a/b` is kept in `root/a/b` and its shadow text in `root/.resin/a/b`. A folder
+/// that isn't there reads as empty, and missing folders are made by a write.
+///
+/// A write puts both texts beside the files that they replace, in names that no path has, and then renames the shadow and last the
+/// file, so no reader sees half a file. Where the last step fails the shadow is put back. A removal takes the file away first, and puts
+/// it back where its shadow can't be removed. A stop of the process between the two renames isn't covered, nor is a system that refuses
+/// to undo: then the call has failed, and the file that is seen is as before.
 #[derive(Drop)]
 pub struct Folder<R: SystemFiles + AllocGlobal + Drop> {
     rt: R,
@@ -36,6 +40,11 @@ fn unless_missing<T: Drop>(answer: io::Result<T>) -> Result<Option<T>, KeepFault
         },
     }
 }
+
+/// Where a text waits until it replaces a file: names that no lawful path has.
+const NEW_BYTES: &[u8] = b"~bytes";
+
+const NEW_SHADOW: &[u8] = b"~shadow";
 
 // The folder that holds a file.
 fn parent(path: &str) -> &str {
@@ -71,9 +80,29 @@ impl<R: SystemFiles + AllocGlobal + Drop> Folder<R> {
         }
     }
 
-    fn keep(&self, place: &str, bytes: &[u8]) -> Result<(), KeepFault> {
+    // Writes a text into the folder of shadows, where no path of a script leads, and gives its place.
+    fn set_down(&self, name: &[u8], bytes: &[u8]) -> Result<String, KeepFault> {
+        let place = self.place(".resin/", name)?;
+        fs::create_dir_all(&self.rt, parent(place.as_str())).map_err(fault_of)?;
+        fs::write(&self.rt, place.as_str(), bytes).map_err(fault_of)?;
+        Ok(place)
+    }
+
+    // Moves a file to a place, whose folders are made.
+    fn put_at(&self, from: &str, place: &str) -> Result<(), KeepFault> {
         fs::create_dir_all(&self.rt, parent(place)).map_err(fault_of)?;
-        fs::write(&self.rt, place, bytes).map_err(fault_of)
+        fs::rename(&self.rt, from, place).map_err(fault_of)
+    }
+
+    // Puts a shadow back as it was.
+    fn restore(&self, place: &str, shadow: &Option<Bytes>) -> Result<(), KeepFault> {
+        match shadow {
+            Some(old) => self.put_at(self.set_down(NEW_SHADOW, old.as_slice())?.as_str(), place),
+            None => {
+                unless_missing(fs::remove_file(&self.rt, place))?;
+                Ok(())
+            }
+        }
     }
 
     fn read_entry(&self, path: &[u8]) -> Result<Option<Entry>, KeepFault> {
@@ -88,16 +117,40 @@ impl<R: SystemFiles + AllocGlobal + Drop> Folder<R> {
     }
 
     fn write_entry(&self, path: &[u8], bytes: &[u8], shadow: &[u8]) -> Result<(), KeepFault> {
-        self.keep(self.place(".resin/", path)?.as_str(), shadow)?;
-        self.keep(self.place("", path)?.as_str(), bytes)
+        let place = self.place("", path)?;
+        let shadow_place = self.place(".resin/", path)?;
+        let old = self.load(shadow_place.as_str())?;
+        let new_shadow = self.set_down(NEW_SHADOW, shadow)?;
+        let new_bytes = self.set_down(NEW_BYTES, bytes)?;
+        self.put_at(new_shadow.as_str(), shadow_place.as_str())?;
+        match self.put_at(new_bytes.as_str(), place.as_str()) {
+            Ok(()) => Ok(()),
+            Err(fault) => {
+                self.restore(shadow_place.as_str(), &old)?;
+                Err(fault)
+            }
+        }
     }
 
     fn remove_entry(&self, path: &[u8]) -> Result<bool, KeepFault> {
         let place = self.place("", path)?;
-        let was = unless_missing(fs::remove_file(&self.rt, place.as_str()))?.is_some();
-        let shadow = self.place(".resin/", path)?;
-        unless_missing(fs::remove_file(&self.rt, shadow.as_str()))?;
-        Ok(was)
+        let shadow_place = self.place(".resin/", path)?;
+        if !self.has_entry(path)? {
+            return Ok(false);
+        }
+        let aside = self.place(".resin/", NEW_BYTES)?;
+        self.put_at(place.as_str(), aside.as_str())?;
+        match unless_missing(fs::remove_file(&self.rt, shadow_place.as_str())) {
+            Ok(_) => {
+                // The entry is gone; what may stay aside is overwritten by the next write.
+                let _aside = fs::remove_file(&self.rt, aside.as_str());
+                Ok(true)
+            }
+            Err(fault) => {
+                self.put_at(aside.as_str(), place.as_str())?;
+                Err(fault)
+            }
+        }
     }
 
     fn has_entry(&self, path: &[u8]) -> Result<bool, KeepFault> {

@@ -1,6 +1,7 @@
 //! Texts with each byte escaped. What is written for a byte carries its set.
-ghost use Rattle.std.specs.Prelude.{◌≤◌, ◌++◌, length, slice_range};
+ghost use Rattle.std.specs.Prelude.{◌≤◌, ◌++◌, codes, length, slice_range};
 ghost use Rattle.std.specs.List.{flat_map};
+ghost use Rattle.resin_label.specs.Sets.{empty};
 ghost use Rattle.resin_lstr.specs.Texts.{carrying};
 ghost use Rattle.resin_lstr.specs.Faults.{GivesText};
 ghost use Rattle.resin_lstr.specs.Runs.{AreRunsOf, text_of};
@@ -74,11 +75,16 @@ fn written(alloc: Global, s: &LText, how: Escape) -> Result<LText, TextFault>
 fn between_quotes(alloc: Global, s: &LText) -> Result<LText, TextFault>
     ensures { GivesText result (sql_literal s.now) }
 {
-    let none = PSet::empty();
-    let out = Builder::new(alloc).append_bytes(b"'", &none)?;
-    let out = append_written(alloc, out, s, Escape::Quotes)?;
-    let out = out.append_bytes(b"'", &none)?;
+    let out = append_quote(Builder::new(alloc))?;
+    let out = append_quote(append_written(alloc, out, s, Escape::Quotes)?)?;
     Ok(out.finish()?)
+}
+
+// Puts a quote without policies last.
+fn append_quote(out: Builder) -> Result<Builder, TextFault>
+    ensures { GivesText result (out ++ carrying empty (codes "'")) }
+{
+    out.append_bytes(b"'", &PSet::empty())
 }
 
 // Puts the text as it is written last.

@@ -1,19 +1,21 @@
 //! Prints what the builtins that escape, encode, digest and format texts answer, one call a line: its name and its arguments,
 //! with tabs between them. In a text `\n`, `\r`, `\t`, `\\` and `\xhh` stand for a byte, and `{12}` gives the bytes before it
 //! the policies 1 and 2; the answers are written so too. An argument of `sprintf` is `i:` with an integer or `s:` with a text.
+//! `long`, a name and a count ask how many bytes a call gives for a text of so many, which begins with a line end; `length`
+//! how many `sprintf` gives; `arguments` how many arguments stand there. A line that begins with `#` is printed as it stands.
 //! The input and the answers, which another program worked out by the PHP manual, are the table of these builtins' tests.
 #![tactic(auto)]
 
 ghost use Rattle.std.specs.Prelude.{◌<◌, length};
 
-use resin_escape_fn::{
+use resin_format::under::escape_fn::{
     addslashes, bin2hex, chr, htmlspecialchars, md5, nl2br, ord, rawurlencode, sha1, sql_quote,
     text_answer, urlencode,
 };
+use resin_format::under::label::PSet;
+use resin_format::under::lstr::{Builder, LText, TextFault};
+use resin_format::under::scalar::CallStop;
 use resin_format::{FormatArg, FormatArgs, Kind, argument_kinds, int_places, sprintf};
-use resin_label::PSet;
-use resin_lstr::{Builder, LText, TextFault};
-use resin_scalar::CallStop;
 use std::alloc::{AllocError, Global};
 use std::io;
 
@@ -140,14 +142,22 @@ fn argument_in(alloc: Global, field: &str) -> Result<FormatArg, CallStop> {
     }
 }
 
-fn formatted(alloc: Global, line: &str) -> Result<LText, CallStop> {
-    let mut fields = line.split('\t');
-    let format = text_in(alloc, fields.next().unwrap_or(""))?;
+// The arguments of a line; none where it is empty.
+fn arguments_in(alloc: Global, line: &str) -> Result<FormatArgs, CallStop> {
     let mut args = FormatArgs::new(alloc);
-    for field in fields {
+    if line.is_empty() {
+        return Ok(args);
+    }
+    for field in line.split('\t') {
         args.push(argument_in(alloc, field)?)?;
     }
-    sprintf(alloc, &format, &args)
+    Ok(args)
+}
+
+fn formatted(alloc: Global, line: &str) -> Result<LText, CallStop> {
+    let (format, rest) = line.split_once('\t').unwrap_or((line, ""));
+    let format = text_in(alloc, format)?;
+    sprintf(alloc, &format, &arguments_in(alloc, rest)?)
 }
 
 fn letter(kind: Kind) -> char {
@@ -208,8 +218,33 @@ fn ord_call(alloc: Global, rest: &str) -> Result<String, CallStop> {
     Ok(out)
 }
 
+// A text of so many bytes, which begins with a line end.
+fn long_text(alloc: Global, len: usize) -> Result<LText, TextFault> {
+    let bytes = vec![in alloc; b'x'; len.saturating_sub(1)]?;
+    LText::plain(alloc, b"\n")?.concat(alloc, &LText::plain(alloc, &bytes)?)
+}
+
+fn long_call(alloc: Global, rest: &str) -> Result<LText, CallStop> {
+    let (name, count) = rest.split_once('\t').unwrap_or((rest, ""));
+    let text = text_answer(long_text(alloc, count.parse::<usize>().unwrap_or(0)))?;
+    text_call(alloc, name, &text)
+}
+
+// A count in place of what is counted; `None` where the name asks for none.
+fn count(alloc: Global, name: &str, rest: &str) -> Result<Option<usize>, CallStop> {
+    match name {
+        "long" => Ok(Some(long_call(alloc, rest)?.len())),
+        "length" => Ok(Some(formatted(alloc, rest)?.len())),
+        "arguments" => Ok(Some(arguments_in(alloc, rest)?.as_slice().len())),
+        _ => Ok(None),
+    }
+}
+
 fn called(alloc: Global, line: &str) -> Result<String, CallStop> {
     let (name, rest) = line.split_once('\t').unwrap_or((line, ""));
+    if let Some(count) = count(alloc, name, rest)? {
+        return Ok(format!(in alloc; "{count}")?);
+    }
     let text = match name {
         "ord" => return ord_call(alloc, rest),
         "places" => return places(alloc, &text_in(alloc, rest)?),
@@ -233,8 +268,11 @@ fn answer(alloc: Global, line: &str) -> Result<String, AllocError> {
 fn main(rt: HostRuntime) -> io::Result<()> {
     for line in rt.lines(rt.alloc()) {
         let line = line?;
-        let text = answer(rt.alloc(), line.as_str())?;
-        rt.println(text)?;
+        if line.as_str().starts_with('#') {
+            rt.println(line)?;
+        } else {
+            rt.println(answer(rt.alloc(), line.as_str())?)?;
+        }
     }
     Ok(())
 }

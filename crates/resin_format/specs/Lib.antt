@@ -3,3 +3,4 @@ pub mod Directives
 pub mod Arguments
 pub mod Formats
 pub mod Found
+pub mod Under

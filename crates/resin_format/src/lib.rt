@@ -6,6 +6,7 @@ mod form;
 mod pieces;
 mod places;
 mod spelling;
+pub mod under;
 mod walk;
 
 pub use args::{FormatArg, FormatArgs};

@@ -2,7 +2,7 @@
 ghost use Rattle.resin_builtin.specs.Calls.{cost};
 ghost use Rattle.resin_builtin.specs.Names.{builtin_named};
 ghost use Rattle.resin_builtin.specs.Rows.{mapped};
-ghost use Rattle.resin_builtin.specs.Turns.{integer_in_text, turned_array, turned_integer, turned_into, turned_text};
+ghost use Rattle.resin_builtin.specs.Turns.{integer_in_text, turned_array, turned_integer, turned_into, turned_text, turned_text_or_array};
 ghost use Rattle.resin_evaluation.specs.Functions.{kinds_of, take_all, work};
 ghost use Rattle.resin_evaluation.specs.Parts.{thrown_new};
 ghost use Rattle.resin_evaluation.specs.Runs.{Runs};
@@ -126,6 +126,18 @@ fn turned_array(v: &Value) -> Result<Value, CallStop>
     }
 }
 
+fn turned_text_or_array(alloc: Global, v: &Value) -> Result<Value, CallStop>
+    ensures { GivesOrNoMemory (seen_answer result) (turned_text_or_array (tree_of v.now)) }
+{
+    match v {
+        Value::Arr(array) => Ok(Value::Arr(array.clone()?)),
+        Value::Obj(_) => Err(CallStop::Throw(ErrorKind::Type)),
+        Value::Null | Value::Bool(_) | Value::Int(_, _) | Value::Text(_) => {
+            text_value(to_text(alloc, v))
+        }
+    }
+}
+
 /// A value as its kind. TypeError is thrown exactly where the kind doesn't take the value; FloatNeeded comes exactly for a text in a float form where an
 /// integer is wanted.
 pub fn turned_into(alloc: Global, kind: ArgKind, v: &Value) -> Result<Value, CallStop>
@@ -135,6 +147,7 @@ pub fn turned_into(alloc: Global, kind: ArgKind, v: &Value) -> Result<Value, Cal
         ArgKind::Text => turned_text(alloc, v),
         ArgKind::Integer => turned_integer(v),
         ArgKind::Array => turned_array(v),
+        ArgKind::TextOrArray => turned_text_or_array(alloc, v),
         ArgKind::Any => Ok(v.clone()?),
     }
 }

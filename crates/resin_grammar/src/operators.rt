@@ -10,7 +10,7 @@ use resin_lex::{
 use resin_scan::words::spells;
 
 /// An operator between two operands of a level from 5 to 11.
-#[derive(Clone, Copy, Debug, PartialEq, Eq)]
+#[derive(Clone, Copy, PartialEq, Eq)]
 pub enum Operator {
     Combine(Combining),
     Compare(Comparison),
@@ -21,7 +21,7 @@ pub enum Operator {
 }
 
 /// An operator of level 2, before its operand.
-#[derive(Clone, Copy, Debug, PartialEq, Eq)]
+#[derive(Clone, Copy, PartialEq, Eq)]
 pub enum Prefix {
     Unary(Unary),
     /// `++`
@@ -31,7 +31,7 @@ pub enum Prefix {
 }
 
 /// What an operator behind a target does to it.
-#[derive(Clone, Copy, Debug, PartialEq, Eq)]
+#[derive(Clone, Copy, PartialEq, Eq)]
 pub enum Writing {
     /// `=`
     Assign,

@@ -5,3 +5,5 @@ pub mod Method_places
 pub mod Prelude_fits
 pub mod Field_places
 pub mod LawLemmas
+-- Passed on to the crates above, which list this one alone.
+pub use Rattle.resin_scan.proofs as scan_lemmas

@@ -6,3 +6,4 @@ pub mod Prelude
 pub mod Tables
 pub mod Objects
 pub mod Laws
+pub mod Under

@@ -7,8 +7,8 @@ ghost use Rattle.resin_heap.specs.Objects.{field, with_field, without_field, Has
 
 use crate::names::{FieldName, place_of};
 use indexmap::IndexMap;
-use resin_bytes::Bytes;
 use resin_items::SharedBytes;
+use resin_value::under::bytes::Bytes;
 use resin_value::{Fields, Value};
 use std::alloc::{AllocError, Global};
 use std::marker::Model;

@@ -9,6 +9,7 @@ mod heap;
 mod laws;
 mod names;
 mod prelude;
+pub mod under;
 
 pub use class::MOST_METHODS;
 pub use classes::{ClassFault, Classes, MOST_CLASSES, MethodAt};

@@ -13,7 +13,7 @@ use Rattle.httparse.specs.declared.spans.RequestSpans.{RequestSpans}
 use Rattle.httparse.specs.Spans.{name_and_value, span_bytes, header_bytes, IsRequestAt}
 use Rattle.httparse.proofs.GrammarLemmas.{print_request-append}
 use Rattle.httparse.proofs.PieceLemmas.{print_field-append}
-use Rattle.resin_bytes.specs.declared.header.Header.{Header}
+use Rattle.resin_inputs.specs.Under.bytes.declared.header.Header.{Header}
 use Rattle.resin_http.specs.declared.request.Method.{Method}
 use Rattle.resin_http.specs.declared.request.Request.{Request}
 use Rattle.resin_http.specs.declared.request.Step.{Step}

@@ -6,7 +6,7 @@ use Rattle.std.specs.Str.{str_to_ascii_lowercase}
 use Rattle.std.specs.Str.Parse.{digits_value}
 use Rattle.httparse.specs.Grammar.{RequestHead}
 use Rattle.httparse.specs.Spans.{name_and_value}
-use Rattle.resin_bytes.specs.declared.header.Header.{Header}
+use Rattle.resin_inputs.specs.Under.bytes.declared.header.Header.{Header}
 use Rattle.resin_http.specs.declared.request.Method.{Method}
 use Rattle.resin_http.specs.declared.request.Method.TheVariants.{Get, Head, Post}
 use Rattle.resin_http.specs.Head.{same_bytes}

@@ -2,7 +2,7 @@
 use Rattle.std.specs.Prelude.{◌≡◌, ℕ, zero, suc, ◌+◌, ◌<◌, ◌≤◌, true, nat_lt, nat_le, nat_eq, List, [], ◌∷◌, ◌++◌, length, take, drop, map, if◌then◌else◌, Option, Some, None, option_map, Result, Ok, Err, codes, sum_by}
 use Rattle.std.specs.List.{starts_with}
 use Rattle.httparse.specs.Grammar.{RequestHead}
-use Rattle.resin_bytes.specs.declared.header.Header.{Header}
+use Rattle.resin_inputs.specs.Under.bytes.declared.header.Header.{Header}
 use Rattle.resin_http.specs.declared.request.Method.{Method}
 use Rattle.resin_http.specs.declared.request.Request.{Request}
 use Rattle.resin_http.specs.Head.{head_of}
@@ -98,6 +98,10 @@ StaysFirst = (s more : List ℕ) (p : Answer × ℕ) → first s ≡ Some p → 
 -- an answer takes at least one byte, and at most the stream
 abbrev pub TakesSome : Type 0
 TakesSome = (s : List ℕ) (p : Answer × ℕ) → first s ≡ Some p → (0 < p.1) × (p.1 ≤ length s)
+
+-- the length that is told with an answer is the end of the shortest front that decides it: that front does, and a shorter one decides nothing
+abbrev pub EndsShortest : Type 0
+EndsShortest = (s : List ℕ) (p : Answer × ℕ) → first s ≡ Some p → (first (take p.1 s) ≡ Some p) × ((n : ℕ) → n < p.1 → first (take n s) ≡ None)
 
 -- the answers of a prefix of a stream are the first answers of the stream
 abbrev pub AnswersGrow : Type 0

@@ -5,7 +5,7 @@ ghost use Rattle.resin_http.specs.Fields.{body_length, values_of, content_length
 
 use crate::request::Method;
 use httparse::spans::HeaderSpan;
-use resin_bytes::{Bytes, Header, HeaderList};
+use resin_inputs::under::bytes::{Bytes, Header, HeaderList};
 use std::alloc::{AllocError, Global};
 
 const MOST_BODY: u64 = 1_048_576;

@@ -11,10 +11,10 @@ mod response;
 mod stream;
 
 pub use arrays::inputs;
-pub use laws::{answers_grow, head_law, mark_stays, stays_first, takes_some};
+pub use laws::{answers_grow, ends_shortest, head_law, mark_stays, stays_first, takes_some};
 pub use marks::Mark;
 pub use request::{Method, Request, Step};
-pub use resin_bytes::{Header, HeaderList};
 pub use resin_inputs::InputArrays;
+pub use resin_inputs::under::bytes::{Header, HeaderList};
 pub use response::response_text;
 pub use stream::{next_marked, next_request};

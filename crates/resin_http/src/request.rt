@@ -1,5 +1,5 @@
 //! Requests.
-use resin_bytes::{Bytes, HeaderList};
+use resin_inputs::under::bytes::{Bytes, HeaderList};
 
 /// The methods that are served.
 #[derive(Clone, Copy, Debug, PartialEq, Eq)]

@@ -7,7 +7,7 @@ ghost use Rattle.resin_http.specs.Response.{response, phrase_of, status_line, ty
 use crate::fields::is_named;
 use http::StatusCode;
 use itoa::Buffer;
-use resin_bytes::{Bytes, Header, HeaderList};
+use resin_inputs::under::bytes::{Bytes, Header, HeaderList};
 use std::alloc::{AllocError, Global};
 
 /// The text of a response: the status line with `http`'s canonical phrase, `Content-Type: kind` where no header tells the type, the

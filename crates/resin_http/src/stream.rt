@@ -10,7 +10,7 @@ use crate::head::{head_end, line_count, whole_head};
 use crate::marks::Mark;
 use crate::request::{Request, Step};
 use httparse::spans::{EMPTY_HEADER_SPAN, HeaderSpan};
-use resin_bytes::Bytes;
+use resin_inputs::under::bytes::Bytes;
 use std::alloc::{AllocError, Global};
 
 const MOST_HEAD: usize = 16_384;

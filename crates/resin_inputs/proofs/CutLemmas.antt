@@ -2,7 +2,7 @@
 use Rattle.std.proofs.Common.{arith, ◌≡◌, ℕ, ◌+◌, ◌-◌, ltb, List, [], length, take, drop, Some, None, cond, Bool, Option, sym, ap, ◌∙◌}
 use Rattle.std.specs.List.{position_or_len, before_first, after_first}
 use Rattle.std.proofs.lemmas.List.{take_all, drop_all, take_rest}
-use Rattle.resin_bytes.proofs.Counts.{some_place, no_place}
+use Rattle.resin_value.proofs.bytes_lemmas.Counts.{some_place, no_place}
 
 -- the answer of a search for such a byte
 abbrev pub Found : (ℕ → Bool) → List ℕ → Option ℕ → Type 0

@@ -2,7 +2,7 @@
 use Rattle.std.proofs.Common.{arith, ◌≡◌, ℕ, ℤ, ◌+◌, ◌<◌, List, [], ◌∷◌, length, Some, None, Bool, true, false, Option, refl, sym, ap, ◌∙◌, max}
 use Rattle.std.specs.Prelude.{int_lt, IsTrue, is_none, if◌then◌else◌, Result, Ok, Err, IfOk, OnOk, MatchResult}
 use Rattle.std.specs.declared.alloc.AllocError.{AllocError}
-use Rattle.resin_bytes.specs.Canonical.{canonical_integer}
+use Rattle.resin_value.specs.Under.bytes.Canonical.{canonical_integer}
 use Rattle.resin_value.specs.declared.key.Key.{Key}
 use Rattle.resin_value.specs.declared.key.Key.TheVariants.{Int, Text}
 use Rattle.resin_value.specs.Keys.{key_eq, is_lawful, key_or_text, text_key}

@@ -2,7 +2,7 @@
 use Rattle.std.specs.Prelude.{ℕ, Bool, not, ◌||◌, ◌==◌, List, length, drop, fold, codes, is_some, if◌then◌else◌}
 use Rattle.std.specs.List.{before_first, after_first, position_or_len, slice_split}
 use Rattle.percent_encoding.specs.Percent.{percent_decode}
-use Rattle.resin_bytes.specs.declared.header.Header.{Header}
+use Rattle.resin_value.specs.Under.bytes.declared.header.Header.{Header}
 use Rattle.resin_value.specs.Arrays.{Array}
 use Rattle.resin_value.specs.Changes.{lookup, put, empty}
 use Rattle.resin_inputs.specs.Names.{is_named, name_key}

@@ -2,8 +2,8 @@
 use Rattle.std.specs.Prelude.{ℕ, ◌==◌, List, [], ◌∷◌, length, map, fold, if◌then◌else◌, Option, Some, None}
 use Rattle.std.specs.Str.Lossy.{utf8_lossy}
 use Rattle.form_urlencoded.specs.Form.{raw_pairs, decode}
-use Rattle.resin_label.specs.Sets.{empty as no_labels}
-use Rattle.resin_lstr.specs.Texts.{carrying}
+use Rattle.resin_value.specs.Under.label.Sets.{empty as no_labels}
+use Rattle.resin_value.specs.Under.lstr.Texts.{carrying}
 use Rattle.resin_value.specs.declared.key.Key.{Key}
 use Rattle.resin_value.specs.Keys.{text_key}
 use Rattle.resin_value.specs.Trees.{Tree, null, boolean, integer, text, array, object}

@@ -1,7 +1,7 @@
 -- What scripts see of a request: `$_GET`, `$_POST`, `$_COOKIE` and `$_SERVER` (PHP manual, "Predefined Variables").
 use Rattle.std.specs.Prelude.{ℕ, Bool, false, ◌&&◌, ◌==◌, List, length, take, codes, if◌then◌else◌, Option, Some, None, find}
 use Rattle.std.specs.List.{after_first}
-use Rattle.resin_bytes.specs.declared.header.Header.{Header}
+use Rattle.resin_value.specs.Under.bytes.declared.header.Header.{Header}
 use Rattle.resin_value.specs.Keys.{text_key}
 use Rattle.resin_value.specs.Arrays.{Array}
 use Rattle.resin_value.specs.Changes.{put, empty}

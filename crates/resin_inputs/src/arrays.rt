@@ -8,8 +8,8 @@ use crate::cuts::split_once;
 use crate::forms::form_array;
 use crate::names::{is_named, text_key};
 use crate::puts::{plain, put};
-use resin_bytes::{Header, HeaderList};
 use resin_value::Arr;
+use resin_value::under::bytes::{Header, HeaderList};
 use std::alloc::{AllocError, Global};
 
 const FORM_TYPE: &[u8] = b"application/x-www-form-urlencoded";

@@ -6,8 +6,8 @@ use crate::cuts::{split_once, unspaced};
 use crate::names::{is_named, name_key};
 use crate::puts::{plain, put};
 use percent_encoding::percent_decode;
-use resin_bytes::Header;
 use resin_value::Arr;
+use resin_value::under::bytes::Header;
 use std::alloc::{AllocError, Global};
 
 /// The array of all `Cookie` fields, in order.

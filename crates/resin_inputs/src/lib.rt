@@ -8,6 +8,7 @@ mod forms;
 mod laws;
 mod names;
 mod puts;
+pub mod under;
 
 pub use arrays::{InputArrays, input_arrays};
 pub use laws::entry_law;

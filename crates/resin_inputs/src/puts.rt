@@ -5,7 +5,7 @@ ghost use Rattle.resin_value.specs.Changes.{put};
 ghost use Rattle.resin_value.specs.Seen.{tree_of};
 ghost use Rattle.resin_inputs.specs.Forms.{plain};
 
-use resin_lstr::LText;
+use resin_value::under::lstr::LText;
 use resin_value::{Arr, Key, Value};
 use std::alloc::{AllocError, Global};
 

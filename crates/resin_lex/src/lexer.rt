@@ -18,7 +18,7 @@ use std::alloc::{AllocError, Global};
 
 /// The tokens of a source text before the place of its first lexical fault, and that place. Without a fault they are all
 /// tokens of the text.
-#[derive(Debug, Drop)]
+#[derive(Drop)]
 pub struct Lexing {
     pub list: TokenList,
     pub fault: Option<u32>,

@@ -100,7 +100,7 @@ pub enum Mark {
 }
 
 /// A kind of token, with the bytes or the number that the token spells.
-#[derive(Debug, Drop)]
+#[derive(Drop)]
 pub enum TokenKind {
     /// Text outside code.
     Inline(SharedBytes),
@@ -133,7 +133,7 @@ pub enum TokenKind {
 }
 
 /// A token: the bytes of the source from `from` to `to`, the end not included.
-#[derive(Debug, Drop)]
+#[derive(Drop)]
 pub struct Token {
     pub kind: TokenKind,
     pub from: u32,
@@ -144,7 +144,7 @@ pub struct Token {
 pub type Tokens = Items<Token>;
 
 /// The tokens of a source text, and its length.
-#[derive(Debug, Drop)]
+#[derive(Drop)]
 pub struct TokenList {
     pub tokens: Tokens,
     pub end: u32,

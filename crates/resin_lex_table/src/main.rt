@@ -1,13 +1,15 @@
 //! Prints the tokens of source texts, one text a line. In the input `\n`, `\r`, `\t`, `\\` and `\xhh` stand for a byte.
 //! A line `@COUNT@FRONT@PART@BACK` stands for the text of FRONT, COUNT times PART and BACK, of which only the number of
 //! tokens is printed: texts of a million parts, on which a lexer that reads bytes again and again doesn't end in time.
+//! Of the text behind `@front@` what stands before its fault is told: how many tokens, where the text ends, and the fault;
+//! of that behind `@places@` the line of each place, its end with them; of that behind `@lines@` the line of each token.
 //! Its input and its output, which was worked out by hand from the PHP manual and this project's profile, are the table of
 //! the lexer's tests.
 #![tactic(auto)]
 
-ghost use Rattle.std.specs.Prelude.{◌<◌, length};
+ghost use Rattle.std.specs.Prelude.{◌<◌, ◌≤◌, length};
 
-use resin_lex::{ParseFault, TokenKind, TokenList, tokens};
+use resin_lex::{ParseFault, TokenKind, TokenList, line_of, token_lines, tokens, tokens_and_fault};
 use std::alloc::{AllocError, Global};
 use std::io;
 
@@ -151,9 +153,62 @@ fn counted(alloc: Global, source: &[u8]) -> Result<String, AllocError> {
     }
 }
 
+/// The tokens before the fault of a text: how many, where the text ends, and the fault.
+fn front(alloc: Global, source: &[u8]) -> Result<String, AllocError>
+    requires { length source.now ≤ 16777216 }
+{
+    let lexing = tokens_and_fault(alloc, source)?;
+    let count = lexing.list.tokens.as_slice().len();
+    let end = lexing.list.end;
+    match lexing.fault {
+        Some(fault) => format!(in alloc; "{count} tokens, end {end}, fault {fault}"),
+        None => format!(in alloc; "{count} tokens, end {end}"),
+    }
+}
+
+/// The line of each place of a text, the last of which is its end.
+fn place_lines(alloc: Global, source: &[u8]) -> Result<String, AllocError>
+    requires { length source.now ≤ 16777216 }
+{
+    let mut out = String::from_str(alloc, "lines")?;
+    for place in 0..=source.len() {
+        let line = line_of(source, place as u32);
+        write!(out, " {line}")?;
+    }
+    Ok(out)
+}
+
+/// The line of each token of a text.
+fn lines(alloc: Global, source: &[u8]) -> Result<String, AllocError>
+    requires { length source.now ≤ 16777216 }
+{
+    let lexing = tokens_and_fault(alloc, source)?;
+    let mut out = String::from_str(alloc, "lines")?;
+    for line in token_lines(alloc, source, &lexing.list.tokens)?.as_slice() {
+        write!(out, " {line}")?;
+    }
+    Ok(out)
+}
+
+/// The answer to a line `QUESTION@SOURCE`, of which the first `@` is left out.
+fn answer_about(alloc: Global, line: &[u8]) -> Result<String, AllocError> {
+    let mut pieces = line.splitn(2, |b| *b == b'@');
+    let question = pieces.next().unwrap_or(&[]);
+    let source = unescaped(alloc, pieces.next().unwrap_or(&[]))?;
+    if source.len() > 16_777_216 {
+        return String::from_str(alloc, "too long");
+    }
+    match question {
+        b"front" => front(alloc, &source),
+        b"places" => place_lines(alloc, &source),
+        b"lines" => lines(alloc, &source),
+        _ => counted(alloc, &repeated(alloc, line)?),
+    }
+}
+
 fn answer_to(alloc: Global, line: &[u8]) -> Result<String, AllocError> {
     match line {
-        [b'@', long @ ..] => counted(alloc, &repeated(alloc, long)?),
+        [b'@', about @ ..] => answer_about(alloc, about),
         _ => answer(alloc, &unescaped(alloc, line)?),
     }
 }

@@ -1,12 +1,12 @@
 -- Steps on output buffers.
 use Rattle.std.proofs.Common.{◌≡◌, ℕ, ◌≤◌, ◌<◌, List, [], ◌∷◌, ◌++◌, length, Bool, true, false, cond, nat_le, Some, None, Result, Ok, Err, refl, sym, ap, subst, ◌∙◌, arith}
 use Rattle.std.proofs.lemmas.Bool.Decides.{nat_tests}
-use Rattle.resin_lstr.specs.Texts.{Text, LONGEST}
-use Rattle.resin_lstr.specs.declared.text.TextFault.{TextFault}
-use Rattle.resin_lstr.specs.declared.text.TextFault.TheVariants.{TooLong, Memory as NoMemory}
+use Rattle.resin_heap.specs.Under.lstr.Texts.{Text, LONGEST}
+use Rattle.resin_heap.specs.Under.lstr.declared.text.TextFault.{TextFault}
+use Rattle.resin_heap.specs.Under.lstr.declared.text.TextFault.TheVariants.{TooLong, Memory as NoMemory}
 use Rattle.resin_stage.specs.Buffered.{Joins}
-use Rattle.resin_scalar.specs.declared.faults.ScriptFault.TheVariants.{TextTooLong}
-use Rattle.resin_scope.specs.Pages.{innermost, appended_to_innermost}
+use Rattle.resin_heap.specs.Under.scalar.declared.faults.ScriptFault.TheVariants.{TextTooLong}
+use Rattle.resin_stage.specs.Under.scope.Pages.{innermost, appended_to_innermost}
 use Rattle.resin_stage.specs.Stages.{Stage, opened, outer_buffers, buffered}
 use Rattle.resin_machine.specs.declared.stop.Stop.{Stop}
 use Rattle.resin_machine.specs.declared.stop.Stop.TheVariants.{Fault, Memory}

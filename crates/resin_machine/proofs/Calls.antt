@@ -1,8 +1,8 @@
 -- Changes of variables leave as many calls open.
 use Rattle.std.proofs.Common.{◌≡◌, ℕ, List, [], ◌∷◌, length, Bool, true, false, cond, refl}
 use Rattle.std.specs.FinMap.{contains_key}
-use Rattle.resin_value.specs.declared.value.Value.{Value}
-use Rattle.resin_scope.specs.Frames.{Frame, Frames, Variables, set_in, assigned, unset_in, without_name, bound_in, with_bound}
+use Rattle.resin_heap.specs.Under.value.declared.value.Value.{Value}
+use Rattle.resin_stage.specs.Under.scope.Frames.{Frame, Frames, Variables, set_in, assigned, unset_in, without_name, bound_in, with_bound}
 
 in_set : (b : Bool) (top top' : Variables) (f g : Frame) (fs : List Frame)
     → let s : Frames = cond b (record { top = top'; calls = f ∷ fs }) (record { top = top; calls = g ∷ fs }) in length s.calls ≡ length (f ∷ fs)

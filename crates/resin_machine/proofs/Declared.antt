@@ -2,7 +2,7 @@
 use Rattle.std.proofs.Common.{◌≡◌, ℕ, List, true, false, Option, Some, None, IsSome, is_some, is_none, refl}
 use Rattle.std.specs.Prelude.{IsSomeAnd}
 use Rattle.std.specs.Option.{option_map_or}
-use Rattle.resin_tree.specs.declared.declaration.ClassDecl.{ClassDecl}
+use Rattle.resin_heap.specs.Under.tree.declared.declaration.ClassDecl.{ClassDecl}
 use Rattle.resin_heap.specs.Classes.{Table, find_class, NamesNoParent}
 use Rattle.resin_machine.specs.Objects.{lacks_parent}
 

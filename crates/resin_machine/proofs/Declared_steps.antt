@@ -1,6 +1,6 @@
 -- Declaring a class, by what the table of classes answers.
 use Rattle.std.proofs.Common.{◌≡◌, ℕ, ◌<◌, [], ◌∷◌, ◌++◌, length, Option, Some, None, IsSome, Result, Ok, Err, is_some, refl, sym, ap, subst, ◌∙◌, ◌↔◌}
-use Rattle.resin_tree.specs.declared.declaration.ClassDecl.{ClassDecl}
+use Rattle.resin_heap.specs.Under.tree.declared.declaration.ClassDecl.{ClassDecl}
 use Rattle.resin_heap.specs.Classes.{Table, find_class, NamesNoParent}
 use Rattle.resin_heap.specs.declared.classes.ClassFault.{ClassFault}
 use Rattle.resin_heap.specs.declared.classes.ClassFault.TheVariants.{Redeclared as IsThere, NoParent, Memory as NoMemory}

@@ -1,6 +1,6 @@
 -- What steps keep.
 use Rattle.std.proofs.Common.{◌≡◌, [], ◌++◌, append-nil, append_assoc, length, false, true, refl, sym, ap, subst, ◌∙◌, IsTrue}
-use Rattle.resin_journal.specs.Events.{EventList}
+use Rattle.resin_stage.specs.Under.journal.Events.{EventList}
 use Rattle.resin_stage.specs.Ties.{IsTied}
 use Rattle.resin_stage.specs.Stages.{Stage}
 use Rattle.resin_machine.specs.State.{State}

@@ -10,3 +10,6 @@ pub mod Object_steps
 pub mod Throw_steps
 pub mod Write_steps
 pub mod Declared_steps
+-- Passed on to the crates above, which list this one alone.
+pub use Rattle.resin_stage.proofs.scope_lemmas
+pub use Rattle.resin_stage.proofs as stage_lemmas

@@ -3,7 +3,7 @@ use Rattle.std.proofs.Common.{◌≡◌, ℕ, ◌+◌, ◌-◌, ◌<◌, ◌≤�
 use Rattle.std.specs.Prelude.{slice_get, slice_set}
 use Rattle.std.specs.Option.{option_map_or}
 use Rattle.std.proofs.lemmas.Bool.Decides.{nat_tests}
-use Rattle.resin_value.specs.Values.{FieldList}
+use Rattle.resin_heap.specs.Under.value.Values.{FieldList}
 use Rattle.resin_heap.specs.declared.heap.Object.{Object}
 use Rattle.resin_heap.specs.Objects.{IsObject, class_at, fields_at, with_fields}
 use Rattle.resin_machine.specs.Objects.{is_object}

@@ -3,9 +3,9 @@ use Rattle.std.proofs.Common.{◌≡◌, ◌≤◌, length, [], ◌∷◌, ◌++
 use Rattle.std.proofs.lemmas.List.{append-nil}
 use Rattle.std.proofs.lemmas.List.Elements.{filter-append}
 use Rattle.std.proofs.lemmas.Result.{err_from_is_err_and}
-use Rattle.resin_journal.specs.declared.event.Event.{Event}
-use Rattle.resin_journal.specs.Events.{EventList}
-use Rattle.resin_journal.specs.Access.{write_of}
+use Rattle.resin_stage.specs.Under.journal.declared.event.Event.{Event}
+use Rattle.resin_stage.specs.Under.journal.Events.{EventList}
+use Rattle.resin_stage.specs.Under.journal.Access.{write_of}
 use Rattle.resin_stage.specs.Stages.{Stage, noted}
 use Rattle.resin_stage.specs.Ties.{nothing, sending_of}
 use Rattle.resin_stage.proofs.Tied.{tied_noted}

@@ -3,12 +3,12 @@ use Rattle.std.proofs.Common.{◌≡◌, ℕ, ◌+◌, ◌≤◌, ◌<◌, List,
 use Rattle.std.specs.FinMap.{insert}
 use Rattle.std.specs.Str.{str_to_ascii_lowercase}
 use Rattle.std.proofs.lemmas.Bool.Decides.{nat_tests}
-use Rattle.resin_scalar.specs.declared.faults.ScriptFault.TheVariants.{FuelSpent, UndefinedFunction, UndefinedClass, Redeclared, BadOperand}
-use Rattle.resin_value.specs.declared.value.Value.{Value}
-use Rattle.resin_value.specs.declared.value.Value.TheVariants.{Null}
-use Rattle.resin_tree.specs.declared.declaration.Function.{Function}
-use Rattle.resin_tree.specs.declared.declaration.ClassDecl.{ClassDecl}
-use Rattle.resin_scope.specs.Names.{Named}
+use Rattle.resin_heap.specs.Under.scalar.declared.faults.ScriptFault.TheVariants.{FuelSpent, UndefinedFunction, UndefinedClass, Redeclared, BadOperand}
+use Rattle.resin_heap.specs.Under.value.declared.value.Value.{Value}
+use Rattle.resin_heap.specs.Under.value.declared.value.Value.TheVariants.{Null}
+use Rattle.resin_heap.specs.Under.tree.declared.declaration.Function.{Function}
+use Rattle.resin_heap.specs.Under.tree.declared.declaration.ClassDecl.{ClassDecl}
+use Rattle.resin_stage.specs.Under.scope.Names.{Named}
 use Rattle.resin_heap.specs.Classes.{Table, find_class}
 use Rattle.resin_heap.specs.Objects.{field, with_field, without_field, class_at, fields_at, with_fields}
 use Rattle.resin_heap.specs.declared.heap.Object.{Object}

@@ -1,8 +1,8 @@
 -- How steps end.
 use Rattle.std.proofs.Common.{◌≡◌, ℕ, ◌≤◌, Bool, true, false, cond, Result, Ok, Err, refl, sym, ap, subst, ◌∙◌, arith, IsErrAnd}
 use Rattle.std.proofs.lemmas.Result.{err_from_is_err_and}
-use Rattle.resin_scalar.specs.declared.faults.ScriptFault.{ScriptFault}
-use Rattle.resin_scalar.specs.declared.faults.ScriptFault.TheVariants.{BadOperand}
+use Rattle.resin_heap.specs.Under.scalar.declared.faults.ScriptFault.{ScriptFault}
+use Rattle.resin_heap.specs.Under.scalar.declared.faults.ScriptFault.TheVariants.{BadOperand}
 use Rattle.resin_machine.specs.declared.stop.Stop.{Stop}
 use Rattle.resin_machine.specs.declared.stop.Stop.TheVariants.{Fault, Memory}
 use Rattle.resin_machine.specs.State.{State}

@@ -1,18 +1,18 @@
 -- Exceptions that the runtime throws.
 use Rattle.std.proofs.Common.{◌≡◌, ℕ, ◌+◌, ◌≤◌, ◌<◌, List, [], ◌∷◌, ◌++◌, length, cond, Result, Ok, Err, refl, sym, ap, subst, ◌∙◌, arith, pos, IsErrAnd}
 use Rattle.std.specs.Prelude.{codes}
-use Rattle.resin_label.specs.Sets.{NumberSet}
-use Rattle.resin_label.specs.Sets.{empty as no_labels}
-use Rattle.resin_lstr.specs.Texts.{carrying}
-use Rattle.resin_lstr.specs.Texts.{Text as LabelledText}
-use Rattle.resin_scalar.specs.declared.faults.CallStop.{CallStop}
-use Rattle.resin_scalar.specs.declared.faults.CallStop.TheVariants.{Throw, Fault as CallFault}
-use Rattle.resin_scalar.specs.declared.faults.ErrorKind.{ErrorKind}
-use Rattle.resin_scalar.specs.declared.faults.ScriptFault.{ScriptFault}
-use Rattle.resin_scalar.specs.declared.faults.ScriptFault.TheVariants.{FuelSpent}
-use Rattle.resin_value.specs.declared.value.Value.{Value}
-use Rattle.resin_value.specs.declared.value.Value.TheVariants.{Int, Text}
-use Rattle.resin_value.specs.Values.{FieldList}
+use Rattle.resin_heap.specs.Under.label.Sets.{NumberSet}
+use Rattle.resin_heap.specs.Under.label.Sets.{empty as no_labels}
+use Rattle.resin_heap.specs.Under.lstr.Texts.{carrying}
+use Rattle.resin_heap.specs.Under.lstr.Texts.{Text as LabelledText}
+use Rattle.resin_heap.specs.Under.scalar.declared.faults.CallStop.{CallStop}
+use Rattle.resin_heap.specs.Under.scalar.declared.faults.CallStop.TheVariants.{Throw, Fault as CallFault}
+use Rattle.resin_heap.specs.Under.scalar.declared.faults.ErrorKind.{ErrorKind}
+use Rattle.resin_heap.specs.Under.scalar.declared.faults.ScriptFault.{ScriptFault}
+use Rattle.resin_heap.specs.Under.scalar.declared.faults.ScriptFault.TheVariants.{FuelSpent}
+use Rattle.resin_heap.specs.Under.value.declared.value.Value.{Value}
+use Rattle.resin_heap.specs.Under.value.declared.value.Value.TheVariants.{Int, Text}
+use Rattle.resin_heap.specs.Under.value.Values.{FieldList}
 use Rattle.resin_heap.specs.Objects.{IsObject, with_field, fields_at, with_fields}
 use Rattle.resin_heap.specs.Prelude.{number_of}
 use Rattle.resin_heap.specs.declared.heap.Object.{Object}

@@ -1,9 +1,9 @@
 -- Steps on variables: those of the inputs, and those of calls and the top level.
 use Rattle.std.proofs.Common.{◌≡◌, ℕ, List, length, true, false, cond, Option, Some, None, Result, Ok, unwrap_or, is_some, refl, sym, ap, subst, ◌∙◌}
 use Rattle.std.specs.FinMap.{get, insert, remove}
-use Rattle.resin_value.specs.declared.value.Value.{Value}
-use Rattle.resin_value.specs.declared.value.Value.TheVariants.{Null}
-use Rattle.resin_scope.specs.Frames.{Frames, Variables, value_of, assigned, without_name, with_bound}
+use Rattle.resin_heap.specs.Under.value.declared.value.Value.{Value}
+use Rattle.resin_heap.specs.Under.value.declared.value.Value.TheVariants.{Null}
+use Rattle.resin_stage.specs.Under.scope.Frames.{Frames, Variables, value_of, assigned, without_name, with_bound}
 use Rattle.resin_machine.specs.declared.stop.Stop.{Stop}
 use Rattle.resin_machine.specs.State.{State}
 use Rattle.resin_machine.specs.Keeping.{IsInside}

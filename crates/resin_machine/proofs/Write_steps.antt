@@ -1,10 +1,10 @@
 -- Steps of a write, by what the stage does in each.
 use Rattle.std.proofs.Common.{◌≡◌, ℕ, ◌+◌, ◌-◌, ◌^◌, ◌≤◌, ◌<◌, List, Bool, true, false, cond, nat_lt, Result, Ok, Err, refl, sym, ap, subst, ◌∙◌, arith, IsErrAnd}
-use Rattle.resin_lstr.specs.Texts.{Text}
-use Rattle.resin_journal.specs.declared.channel.Channel.{Channel}
-use Rattle.resin_journal.specs.declared.event.Event.{Event}
-use Rattle.resin_journal.specs.declared.event.Event.TheVariants.{Passed, Denied, FilterDenied}
-use Rattle.resin_scalar.specs.declared.faults.ScriptFault.TheVariants.{FuelSpent, ChannelInCheck}
+use Rattle.resin_heap.specs.Under.lstr.Texts.{Text}
+use Rattle.resin_stage.specs.Under.journal.declared.channel.Channel.{Channel}
+use Rattle.resin_stage.specs.Under.journal.declared.event.Event.{Event}
+use Rattle.resin_stage.specs.Under.journal.declared.event.Event.TheVariants.{Passed, Denied, FilterDenied}
+use Rattle.resin_heap.specs.Under.scalar.declared.faults.ScriptFault.TheVariants.{FuelSpent, ChannelInCheck}
 use Rattle.resin_stage.specs.Stages.{Stage, drawn, noted, sent_page, sent_header, sent_status, sent_mail}
 use Rattle.resin_stage.specs.Ties.{IsTied}
 use Rattle.resin_machine.specs.declared.stop.Stop.{Stop}

@@ -2,8 +2,8 @@
 use Rattle.std.specs.Prelude.{ℕ, Bool, List, Ok}
 use Rattle.std.specs.FinMap.{insert, contains_key}
 use Rattle.std.specs.Str.{str_to_ascii_lowercase}
-use Rattle.resin_journal.specs.declared.channel.Channel.{Channel}
-use Rattle.resin_scope.specs.Chained.{appended, taken_out, appended_to_function}
+use Rattle.resin_stage.specs.Under.journal.declared.channel.Channel.{Channel}
+use Rattle.resin_stage.specs.Under.scope.Chained.{appended, taken_out, appended_to_function}
 use Rattle.resin_machine.specs.State.{State}
 use Rattle.resin_machine.specs.Steps.{Act}
 

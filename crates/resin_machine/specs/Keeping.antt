@@ -1,7 +1,7 @@
 -- What every step of an evaluation leaves as it was.
 use Rattle.std.specs.Prelude.{◌≡◌, ◌++◌, length, IsTrue, filter, nat_lt}
-use Rattle.resin_journal.specs.Events.{EventList}
-use Rattle.resin_journal.specs.Access.{write_of}
+use Rattle.resin_stage.specs.Under.journal.Events.{EventList}
+use Rattle.resin_stage.specs.Under.journal.Access.{write_of}
 use Rattle.resin_stage.specs.Ties.{IsTied}
 use Rattle.resin_machine.specs.State.{State}
 

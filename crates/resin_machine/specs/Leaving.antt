@@ -1,13 +1,13 @@
 -- Steps of writes and of the answer under way (RESIN's default filters in outline; the order is this project's own).
 use Rattle.std.specs.Prelude.{◌≡◌, ℕ, ◌+◌, ◌-◌, ◌^◌, nat_lt, nat_le, Bool, false, List, [], ◌∷◌, ◌++◌, length, slice_get, unwrap_or, Option, None, Some, Ok, if◌then◌else◌}
-use Rattle.resin_lstr.specs.Texts.{Text, LONGEST}
-use Rattle.resin_lstr.specs.declared.text.TextFault.{TextFault}
-use Rattle.resin_lstr.specs.declared.text.TextFault.TheVariants.{TooLong, Memory as NoMemory}
-use Rattle.resin_journal.specs.declared.channel.Channel.{Channel}
-use Rattle.resin_journal.specs.declared.event.Event.{Event}
-use Rattle.resin_journal.specs.declared.event.Event.TheVariants.{Passed, Denied, FilterDenied}
-use Rattle.resin_scalar.specs.declared.faults.ScriptFault.TheVariants.{FuelSpent, ChannelInCheck, TextTooLong}
-use Rattle.resin_scope.specs.Pages.{innermost}
+use Rattle.resin_heap.specs.Under.lstr.Texts.{Text, LONGEST}
+use Rattle.resin_heap.specs.Under.lstr.declared.text.TextFault.{TextFault}
+use Rattle.resin_heap.specs.Under.lstr.declared.text.TextFault.TheVariants.{TooLong, Memory as NoMemory}
+use Rattle.resin_stage.specs.Under.journal.declared.channel.Channel.{Channel}
+use Rattle.resin_stage.specs.Under.journal.declared.event.Event.{Event}
+use Rattle.resin_stage.specs.Under.journal.declared.event.Event.TheVariants.{Passed, Denied, FilterDenied}
+use Rattle.resin_heap.specs.Under.scalar.declared.faults.ScriptFault.TheVariants.{FuelSpent, ChannelInCheck, TextTooLong}
+use Rattle.resin_stage.specs.Under.scope.Pages.{innermost}
 use Rattle.resin_heap.specs.Classes.{class_names}
 use Rattle.resin_heap.specs.Objects.{class_at}
 use Rattle.resin_heap.specs.Prelude.{name_of}

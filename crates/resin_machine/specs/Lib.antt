@@ -5,3 +5,4 @@ pub mod Variables
 pub mod Objects
 pub mod Filters
 pub mod Leaving
+pub mod Under

@@ -3,19 +3,19 @@ use Rattle.std.specs.Prelude.{ℕ, pos, ◌+◌, ◌&&◌, nat_lt, nat_le, Bool,
 use Rattle.std.specs.Option.{option_map_or}
 use Rattle.std.specs.Str.{str_to_ascii_lowercase}
 use Rattle.std.specs.FinMap.{get, insert}
-use Rattle.resin_label.specs.Sets.{empty as no_labels}
-use Rattle.resin_lstr.specs.Texts.{carrying}
-use Rattle.resin_lstr.specs.Texts.{Text as LabelledText}
-use Rattle.resin_scalar.specs.declared.faults.CallStop.{CallStop}
-use Rattle.resin_scalar.specs.declared.faults.CallStop.TheVariants.{Throw, Fault as CallFault, Memory as CallMemory}
-use Rattle.resin_scalar.specs.declared.faults.ErrorKind.{ErrorKind}
-use Rattle.resin_scalar.specs.declared.faults.ErrorKind.TheVariants.{Plain, Arithmetic, DivisionByZero, «Type» as TypeKind, ArgumentCount, Value as ValueKind}
-use Rattle.resin_scalar.specs.declared.faults.ScriptFault.TheVariants.{FuelSpent, UndefinedFunction, UndefinedClass, Redeclared, BadOperand}
-use Rattle.resin_value.specs.declared.value.Value.{Value}
-use Rattle.resin_value.specs.declared.value.Value.TheVariants.{Null, Int, Text}
-use Rattle.resin_value.specs.Values.{FieldList}
-use Rattle.resin_tree.specs.declared.declaration.Function.{Function}
-use Rattle.resin_tree.specs.declared.declaration.ClassDecl.{ClassDecl}
+use Rattle.resin_heap.specs.Under.label.Sets.{empty as no_labels}
+use Rattle.resin_heap.specs.Under.lstr.Texts.{carrying}
+use Rattle.resin_heap.specs.Under.lstr.Texts.{Text as LabelledText}
+use Rattle.resin_heap.specs.Under.scalar.declared.faults.CallStop.{CallStop}
+use Rattle.resin_heap.specs.Under.scalar.declared.faults.CallStop.TheVariants.{Throw, Fault as CallFault, Memory as CallMemory}
+use Rattle.resin_heap.specs.Under.scalar.declared.faults.ErrorKind.{ErrorKind}
+use Rattle.resin_heap.specs.Under.scalar.declared.faults.ErrorKind.TheVariants.{Plain, Arithmetic, DivisionByZero, «Type» as TypeKind, ArgumentCount, Value as ValueKind}
+use Rattle.resin_heap.specs.Under.scalar.declared.faults.ScriptFault.TheVariants.{FuelSpent, UndefinedFunction, UndefinedClass, Redeclared, BadOperand}
+use Rattle.resin_heap.specs.Under.value.declared.value.Value.{Value}
+use Rattle.resin_heap.specs.Under.value.declared.value.Value.TheVariants.{Null, Int, Text}
+use Rattle.resin_heap.specs.Under.value.Values.{FieldList}
+use Rattle.resin_heap.specs.Under.tree.declared.declaration.Function.{Function}
+use Rattle.resin_heap.specs.Under.tree.declared.declaration.ClassDecl.{ClassDecl}
 use Rattle.resin_heap.specs.Classes.{Table, find_class}
 use Rattle.resin_heap.specs.Objects.{field, with_field, without_field, class_at, fields_at, with_fields}
 use Rattle.resin_heap.specs.Prelude.{number_of}

@@ -1,12 +1,12 @@
 -- The state of a request while its scripts run (this project).
 use Rattle.std.specs.Prelude.{ℕ, Bool, false, List, [], ◌∷◌, codes, Option, None}
 use Rattle.std.specs.FinMap.{empty, insert}
-use Rattle.resin_value.specs.declared.value.Value.TheVariants.{Arr}
-use Rattle.resin_value.specs.Changes.{empty as empty_array}
-use Rattle.resin_tree.specs.declared.declaration.Function.{Function}
-use Rattle.resin_scope.specs.Names.{Named, NameSet}
-use Rattle.resin_scope.specs.Frames.{Frames, Variables, no_frames}
-use Rattle.resin_scope.specs.Chained.{FilterChains, no_chains}
+use Rattle.resin_heap.specs.Under.value.declared.value.Value.TheVariants.{Arr}
+use Rattle.resin_heap.specs.Under.value.Changes.{empty as empty_array}
+use Rattle.resin_heap.specs.Under.tree.declared.declaration.Function.{Function}
+use Rattle.resin_stage.specs.Under.scope.Names.{Named, NameSet}
+use Rattle.resin_stage.specs.Under.scope.Frames.{Frames, Variables, no_frames}
+use Rattle.resin_stage.specs.Under.scope.Chained.{FilterChains, no_chains}
 use Rattle.resin_heap.specs.Classes.{Table}
 use Rattle.resin_heap.specs.Prelude.{prelude}
 use Rattle.resin_heap.specs.declared.heap.Object.{Object}
@@ -29,7 +29,7 @@ pub record State : Type 0 where
   pub stage : Stage
   -- the paths that were imported; `boot.php` always counts
   pub imported : NameSet
-  -- `$_GET`, `$_POST`, `$_COOKIE`, `$_SERVER` and `$_SESSION`, which are visible everywhere
+  -- `$_GET`, `$_POST`, `$_COOKIE` and `$_SERVER`, which are visible everywhere
   pub inputs : Variables
   -- how many ticks are left
   pub ticks : ℕ
@@ -42,7 +42,7 @@ pub record State : Type 0 where
 
 -- the names of the inputs
 abbrev pub input_names : List (List ℕ)
-input_names = codes "_GET" ∷ codes "_POST" ∷ codes "_COOKIE" ∷ codes "_SERVER" ∷ codes "_SESSION" ∷ []
+input_names = codes "_GET" ∷ codes "_POST" ∷ codes "_COOKIE" ∷ codes "_SERVER" ∷ []
 
 -- each of these names stands for the empty array
 abbrev pub empty_arrays : List (List ℕ) → Variables

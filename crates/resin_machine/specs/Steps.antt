@@ -1,7 +1,7 @@
 -- The small steps of an evaluation on the state alone, and what a method has to do with one.
 use Rattle.std.specs.Prelude.{◌≡◌, ◌≢◌, ℕ, ◌-◌, ◌/◌, ◌≤◌, true, Result, Ok, Err, if◌then◌else◌, nat_le}
-use Rattle.resin_scalar.specs.declared.faults.ScriptFault.{ScriptFault}
-use Rattle.resin_scalar.specs.declared.faults.ScriptFault.TheVariants.{FuelSpent, ChannelInCheck}
+use Rattle.resin_heap.specs.Under.scalar.declared.faults.ScriptFault.{ScriptFault}
+use Rattle.resin_heap.specs.Under.scalar.declared.faults.ScriptFault.TheVariants.{FuelSpent, ChannelInCheck}
 use Rattle.resin_machine.specs.declared.stop.Stop.{Stop}
 use Rattle.resin_machine.specs.declared.stop.Stop.TheVariants.{Thrown, Exit, Fault, Keeper, Memory}
 use Rattle.resin_machine.specs.State.{State}

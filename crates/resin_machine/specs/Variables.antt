@@ -3,9 +3,9 @@ use Rattle.std.specs.Prelude.{ℕ, Bool, List, Option, Ok, unwrap_or, is_some, i
 use Rattle.std.specs.List.{list_any}
 use Rattle.std.specs.Str.{bytes_eq}
 use Rattle.std.specs.FinMap.{get, insert, remove}
-use Rattle.resin_value.specs.declared.value.Value.{Value}
-use Rattle.resin_value.specs.declared.value.Value.TheVariants.{Null}
-use Rattle.resin_scope.specs.Frames.{value_of, assigned, without_name, with_bound, entered, left}
+use Rattle.resin_heap.specs.Under.value.declared.value.Value.{Value}
+use Rattle.resin_heap.specs.Under.value.declared.value.Value.TheVariants.{Null}
+use Rattle.resin_stage.specs.Under.scope.Frames.{value_of, assigned, without_name, with_bound, entered, left}
 use Rattle.resin_machine.specs.State.{State, input_names}
 use Rattle.resin_machine.specs.Steps.{Act}
 

@@ -7,7 +7,7 @@ ghost use Rattle.resin_machine.specs.Filters.{add_filter, without_filter, add_fu
 use crate::machine::Machine;
 use crate::objects::lowered;
 use crate::stop::Stop;
-use resin_journal::Channel;
+use resin_stage::under::journal::Channel;
 
 impl Machine {
     /// Puts a filter last on a channel.

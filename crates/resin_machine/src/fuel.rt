@@ -4,7 +4,7 @@ ghost use Rattle.resin_machine.specs.Steps.{Acts, charge, charge_bytes, awake, a
 
 use crate::machine::Machine;
 use crate::stop::Stop;
-use resin_scalar::ScriptFault;
+use resin_heap::under::scalar::ScriptFault;
 
 impl Machine {
     /// Takes so many ticks. FuelSpent comes exactly where that is more than what is left.

@@ -1,8 +1,8 @@
 //! Writes, output buffers, and what a request leaves.
 ghost use Rattle.std.specs.Prelude.{◌≡◌, ◌<◌, [], length, decimal, Some, false, IfOk, IsTrue};
-ghost use Rattle.resin_scan.specs.Words.{IsName};
-ghost use Rattle.resin_lstr.specs.Texts.{bytes_of};
-ghost use Rattle.resin_journal.specs.Channels.{is_leaving};
+ghost use Rattle.resin_heap.specs.Under.scan.Words.{IsName};
+ghost use Rattle.resin_heap.specs.Under.lstr.Texts.{bytes_of};
+ghost use Rattle.resin_stage.specs.Under.journal.Channels.{is_leaving};
 ghost use Rattle.resin_stage.specs.Lines.{header_line};
 ghost use Rattle.resin_stage.specs.Writes.{IsLawful};
 ghost use Rattle.resin_machine.specs.Steps.{Acts, ActsLoosely};
@@ -10,11 +10,11 @@ ghost use Rattle.resin_machine.specs.Leaving.{draw, class_name_of, pass, deny, d
 
 use crate::machine::Machine;
 use crate::stop::Stop;
-use resin_bytes::{Bytes, HeaderList};
 use resin_heap::PreludeClass;
-use resin_journal::{Channel, Journal};
-use resin_lstr::{LText, TextFault};
-use resin_scalar::ScriptFault;
+use resin_heap::under::bytes::{Bytes, HeaderList};
+use resin_heap::under::lstr::{LText, TextFault};
+use resin_heap::under::scalar::ScriptFault;
+use resin_stage::under::journal::{Channel, Journal};
 use std::alloc::{AllocError, Global};
 
 /// What a request leaves when its scripts are done: its status, the headers that they set, its body, its mail, and its journal.

@@ -9,6 +9,7 @@ mod names;
 mod objects;
 mod stop;
 mod thrown;
+pub mod under;
 mod variables;
 
 pub use leaving::Finished;

@@ -1,20 +1,20 @@
 //! The machine: what the scripts of a request change.
 ghost use Rattle.std.specs.Prelude.{◌≡◌, ◌∷◌, [], codes, IfOk, OnOk, OnErr};
 ghost use Rattle.std.specs.FinMap.{insert};
-ghost use Rattle.resin_value.specs.declared.value.Value.{Value as AnyValue};
-ghost use Rattle.resin_value.specs.Changes.{empty as empty_array};
+ghost use Rattle.resin_heap.specs.Under.value.declared.value.Value.{Value as AnyValue};
+ghost use Rattle.resin_heap.specs.Under.value.Changes.{empty as empty_array};
 ghost use Rattle.resin_stage.specs.Writes.{IsLawful};
 ghost use Rattle.resin_machine.specs.State.{new_state, empty_arrays, input_names};
 ghost use Rattle.resin_machine.specs.Keeping.{Tied};
 
 use crate::names::NameMap;
 use crate::stop::Stop;
+use resin_heap::under::scalar::{ScriptFault, Ticks};
+use resin_heap::under::tree::Function;
+use resin_heap::under::value::{Arr, Value};
 use resin_heap::{Classes, Heap};
-use resin_scalar::{ScriptFault, Ticks};
-use resin_scope::{Chains, Scopes};
 use resin_stage::Stage;
-use resin_tree::Function;
-use resin_value::{Arr, Value};
+use resin_stage::under::scope::{Chains, Scopes};
 use std::alloc::{AllocError, Global};
 use std::marker::Model;
 
@@ -42,12 +42,12 @@ pub struct Machine {
 
 impl Model for Machine {
     ghost use Rattle.std.specs.Coded.{codes};
-    ghost use Rattle.resin_tree.specs.contracts.declaration.Constant as constant;
-    ghost use Rattle.resin_tree.specs.contracts.statement.Stmt as statement;
-    ghost use Rattle.resin_value.specs.Values.{value_code};
-    ghost use Rattle.resin_scope.specs.Names.{named_code, name_set_code};
-    ghost use Rattle.resin_scope.specs.Frames.{frames_code, variables_code};
-    ghost use Rattle.resin_scope.specs.Chained.{chains_code};
+    ghost use Rattle.resin_heap.specs.Under.tree.contracts.declaration.Constant as constant;
+    ghost use Rattle.resin_heap.specs.Under.tree.contracts.statement.Stmt as statement;
+    ghost use Rattle.resin_heap.specs.Under.value.Values.{value_code};
+    ghost use Rattle.resin_stage.specs.Under.scope.Names.{named_code, name_set_code};
+    ghost use Rattle.resin_stage.specs.Under.scope.Frames.{frames_code, variables_code};
+    ghost use Rattle.resin_stage.specs.Under.scope.Chained.{chains_code};
     ghost use Rattle.resin_stage.specs.Stages.{stage_code};
     ghost use Rattle.resin_machine.specs.State.{State};
 
@@ -84,7 +84,6 @@ fn empty_inputs(alloc: Global) -> Result<NameMap<Value>, AllocError>
     ensures { IfOk result (λ inputs. inputs ≡ empty_arrays input_names) }
 {
     let mut inputs = NameMap::new(alloc);
-    put_empty(alloc, &mut inputs, b"_SESSION")?;
     put_empty(alloc, &mut inputs, b"_SERVER")?;
     put_empty(alloc, &mut inputs, b"_COOKIE")?;
     put_empty(alloc, &mut inputs, b"_POST")?;

@@ -2,7 +2,7 @@
 ghost use Rattle.std.specs.Prelude.{◌≡◌, Some, OnOk, OnErr, IsTrue};
 ghost use Rattle.std.specs.Option.{option_copied};
 ghost use Rattle.std.specs.FinMap.{empty, get, contains_key, insert, remove};
-ghost use Rattle.resin_scope.specs.Names.{name_order};
+ghost use Rattle.resin_stage.specs.Under.scope.Names.{name_order};
 
 use std::alloc::{AllocError, Global};
 use std::collections::HashMap;
@@ -18,7 +18,7 @@ pub(crate) struct NameMap<V> {
 
 impl<V> Model for NameMap<V> {
     ghost use Rattle.std.specs.FinMap.{from_entries};
-    ghost use Rattle.resin_scope.specs.Names.{Named, named_code, by_bytes};
+    ghost use Rattle.resin_stage.specs.Under.scope.Names.{Named, named_code, by_bytes};
 
     ghost Value = { Named V };
 

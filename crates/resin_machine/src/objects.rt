@@ -6,10 +6,10 @@ ghost use Rattle.resin_machine.specs.Objects.{declare_function, find_function, d
 
 use crate::machine::Machine;
 use crate::stop::Stop;
+use resin_heap::under::scalar::ScriptFault;
+use resin_heap::under::tree::{ClassDecl, Function};
+use resin_heap::under::value::Value;
 use resin_heap::{ClassFault, MOST_CLASSES, MOST_METHODS, MOST_OBJECTS};
-use resin_scalar::ScriptFault;
-use resin_tree::{ClassDecl, Function};
-use resin_value::Value;
 use std::alloc::{AllocError, Global};
 
 // A name in lower case.

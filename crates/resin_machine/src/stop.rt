@@ -1,5 +1,5 @@
 //! How an evaluation stops.
-use resin_scalar::ScriptFault;
+use resin_heap::under::scalar::ScriptFault;
 use std::alloc::AllocError;
 
 /// Why an evaluation gives no value.

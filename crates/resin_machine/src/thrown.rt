@@ -1,18 +1,18 @@
 //! The exceptions that the runtime throws.
 ghost use Rattle.std.specs.Prelude.{◌≡◌, ◌<◌, ◌+◌, ◌++◌, ◌∷◌, [], length, Err, IfOk, OnOk};
-ghost use Rattle.resin_label.specs.Sets.{empty as no_labels};
-ghost use Rattle.resin_lstr.specs.Texts.{carrying};
+ghost use Rattle.resin_heap.specs.Under.label.Sets.{empty as no_labels};
+ghost use Rattle.resin_heap.specs.Under.lstr.Texts.{carrying};
 ghost use Rattle.resin_heap.specs.Prelude.{number_of};
 ghost use Rattle.resin_machine.specs.Steps.{ActsLoosely};
 ghost use Rattle.resin_machine.specs.Objects.{throw_new, settled, class_of_error, exception_of};
 
 use crate::machine::Machine;
 use crate::stop::Stop;
+use resin_heap::under::label::PSet;
+use resin_heap::under::lstr::LText;
+use resin_heap::under::scalar::{CallStop, ErrorKind, ScriptFault};
+use resin_heap::under::value::Value;
 use resin_heap::{Heap, MOST_OBJECTS, PreludeClass};
-use resin_label::PSet;
-use resin_lstr::LText;
-use resin_scalar::{CallStop, ErrorKind, ScriptFault};
-use resin_value::Value;
 use std::alloc::{AllocError, Global};
 
 // The class of an error.

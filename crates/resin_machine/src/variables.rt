@@ -1,15 +1,15 @@
 //! Variables and calls.
 ghost use Rattle.std.specs.Prelude.{◌≡◌, ◌<◌, length, unwrap_or, Err, IfOk, OnErr, IsSome};
 ghost use Rattle.std.specs.Option.{option_copied};
-ghost use Rattle.resin_value.specs.declared.value.Value.{Value as AnyValue};
-ghost use Rattle.resin_scope.specs.Frames.{left};
+ghost use Rattle.resin_heap.specs.Under.value.declared.value.Value.{Value as AnyValue};
+ghost use Rattle.resin_stage.specs.Under.scope.Frames.{left};
 ghost use Rattle.resin_machine.specs.Keeping.{IsInside};
 ghost use Rattle.resin_machine.specs.Steps.{Acts};
 ghost use Rattle.resin_machine.specs.Variables.{is_input, variable, with_variable, read, assign, taken_from, without_variable, bind_global, in_call};
 
 use crate::machine::Machine;
 use crate::stop::Stop;
-use resin_value::Value;
+use resin_heap::under::value::Value;
 
 // Whether a name is that of an input.
 fn is_input(name: &[u8]) -> bool
@@ -19,7 +19,6 @@ fn is_input(name: &[u8]) -> bool
         || name == b"_POST".as_slice()
         || name == b"_COOKIE".as_slice()
         || name == b"_SERVER".as_slice()
-        || name == b"_SESSION".as_slice()
 }
 
 impl Machine {

@@ -1,10 +1,10 @@
 -- Arithmetic on integers of 64 bits (PHP manual, "Arithmetic Operators"; where PHP would answer a float, this project's faults).
 use Rattle.std.specs.Prelude.{ℤ, pos, negsuc, ◌+ℤ◌, ◌-ℤ◌, ◌*ℤ◌, ◌^◌, Bool, nat_lt, if◌then◌else◌, Result, Ok, Err, int_div, int_rem}
 use Rattle.std.specs.Ordering.{int_eq}
-use Rattle.resin_scalar.specs.declared.faults.ScriptFault.TheVariants.{IntegerOverflow, FloatNeeded}
-use Rattle.resin_scalar.specs.declared.faults.ErrorKind.TheVariants.{DivisionByZero}
-use Rattle.resin_scalar.specs.declared.faults.CallStop.{CallStop}
-use Rattle.resin_scalar.specs.declared.faults.CallStop.TheVariants.{Throw, Fault}
+use Rattle.resin_value.specs.Under.scalar.declared.faults.ScriptFault.TheVariants.{IntegerOverflow, FloatNeeded}
+use Rattle.resin_value.specs.Under.scalar.declared.faults.ErrorKind.TheVariants.{DivisionByZero}
+use Rattle.resin_value.specs.Under.scalar.declared.faults.CallStop.{CallStop}
+use Rattle.resin_value.specs.Under.scalar.declared.faults.CallStop.TheVariants.{Throw, Fault}
 use Rattle.resin_ops.specs.declared.operator.Arith.{Arith}
 use Rattle.resin_ops.specs.declared.operator.Arith.TheVariants.{Add, Sub, Mul, Div, Rem}
 

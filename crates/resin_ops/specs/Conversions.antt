@@ -1,17 +1,17 @@
 -- Conversions of values that operators ask for (PHP manual, "Type Juggling", in this project's profile).
 use Rattle.std.specs.Prelude.{ℤ, true, false, [], codes, Option, None, Some, Result, Ok, Err}
 use Rattle.std.specs.Fmt.{signed_decimal}
-use Rattle.resin_label.specs.Sets.{empty}
-use Rattle.resin_lstr.specs.Texts.{Text as LabelledText, bytes_of, carrying}
-use Rattle.resin_lstr.specs.declared.text.TextFault.{TextFault}
-use Rattle.resin_lstr.specs.declared.text.TextFault.TheVariants.{TooLong, Memory as NoMemory}
-use Rattle.resin_scalar.specs.declared.scalar.NumFault.{NumFault}
-use Rattle.resin_scalar.specs.declared.faults.ScriptFault.{ScriptFault}
-use Rattle.resin_scalar.specs.declared.faults.ScriptFault.TheVariants.{BadOperand, TextTooLong}
-use Rattle.resin_scalar.specs.declared.faults.CallStop.{CallStop}
-use Rattle.resin_scalar.specs.declared.faults.CallStop.TheVariants.{Fault, Memory}
-use Rattle.resin_scalar.specs.Faults.{number_fault}
-use Rattle.resin_scalar.specs.Scalars.{Plain, one_of, number_of, int_of}
+use Rattle.resin_value.specs.Under.label.Sets.{empty}
+use Rattle.resin_value.specs.Under.lstr.Texts.{Text as LabelledText, bytes_of, carrying}
+use Rattle.resin_value.specs.Under.lstr.declared.text.TextFault.{TextFault}
+use Rattle.resin_value.specs.Under.lstr.declared.text.TextFault.TheVariants.{TooLong, Memory as NoMemory}
+use Rattle.resin_value.specs.Under.scalar.declared.scalar.NumFault.{NumFault}
+use Rattle.resin_value.specs.Under.scalar.declared.faults.ScriptFault.{ScriptFault}
+use Rattle.resin_value.specs.Under.scalar.declared.faults.ScriptFault.TheVariants.{BadOperand, TextTooLong}
+use Rattle.resin_value.specs.Under.scalar.declared.faults.CallStop.{CallStop}
+use Rattle.resin_value.specs.Under.scalar.declared.faults.CallStop.TheVariants.{Fault, Memory}
+use Rattle.resin_value.specs.Under.scalar.Faults.{number_fault}
+use Rattle.resin_value.specs.Under.scalar.Scalars.{Plain, one_of, number_of, int_of}
 use Rattle.resin_value.specs.declared.key.Key.{Key}
 use Rattle.resin_value.specs.declared.key.Key.TheVariants.{Int as KInt, Text as KText}
 use Rattle.resin_value.specs.Keys.{text_key}

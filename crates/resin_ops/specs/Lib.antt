@@ -1,3 +1,4 @@
 pub mod Conversions
 pub mod Arithmetic
 pub mod Places
+pub mod Under

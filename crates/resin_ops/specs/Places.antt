@@ -1,9 +1,9 @@
 -- One byte of a text by its place (PHP manual, "String access and modification by character").
 use Rattle.std.specs.Prelude.{ℕ, ℤ, pos, negsuc, ◌+◌, ◌-◌, nat_lt, if◌then◌else◌, length, take, drop, Option, None, Some, Result, Ok, Err}
-use Rattle.resin_lstr.specs.Texts.{Text as LabelledText}
-use Rattle.resin_scalar.specs.declared.faults.ScriptFault.TheVariants.{BadOperand}
-use Rattle.resin_scalar.specs.declared.faults.CallStop.{CallStop}
-use Rattle.resin_scalar.specs.declared.faults.CallStop.TheVariants.{Fault}
+use Rattle.resin_value.specs.Under.lstr.Texts.{Text as LabelledText}
+use Rattle.resin_value.specs.Under.scalar.declared.faults.ScriptFault.TheVariants.{BadOperand}
+use Rattle.resin_value.specs.Under.scalar.declared.faults.CallStop.{CallStop}
+use Rattle.resin_value.specs.Under.scalar.declared.faults.CallStop.TheVariants.{Fault}
 use Rattle.resin_value.specs.declared.key.Key.{Key}
 use Rattle.resin_value.specs.declared.key.Key.TheVariants.{Int as KInt, Text as KText}
 use Rattle.resin_value.specs.declared.value.Value.{Value}

@@ -3,7 +3,7 @@ ghost use Rattle.std.specs.Prelude.{◌≡◌, ◌≢◌, pos, MatchOption, Ok, 
 ghost use Rattle.resin_ops.specs.Arithmetic.{arith_of, even_quotient};
 
 use crate::operator::Arith;
-use resin_scalar::{CallStop, ErrorKind, ScriptFault};
+use resin_value::under::scalar::{CallStop, ErrorKind, ScriptFault};
 
 /// The answer of an operator on two integers of 64 bits. `IntegerOverflow` comes exactly where the exact answer is outside 64 bits, `FloatNeeded` exactly
 /// where `/` leaves a remainder, `DivisionByZeroError` exactly for `/` and `%` by 0. `%` has the sign of its left side.

@@ -1,13 +1,13 @@
 //! Conversions of values that operators ask for.
 ghost use Rattle.std.specs.Prelude.{◌≡◌, IfOk, IsTrue};
-ghost use Rattle.resin_scalar.specs.Stops.{Gives};
+ghost use Rattle.resin_value.specs.Under.scalar.Stops.{Gives};
 ghost use Rattle.resin_value.specs.Keys.{is_lawful};
 ghost use Rattle.resin_value.specs.Seen.{tree_of};
 ghost use Rattle.resin_ops.specs.Conversions.{text_of, text_stop, number_of_value, int_of_value, key_of};
 
 use itoa::Buffer;
-use resin_lstr::{LText, TextFault};
-use resin_scalar::{CallStop, ScriptFault, cast_int, number};
+use resin_value::under::lstr::{LText, TextFault};
+use resin_value::under::scalar::{CallStop, ScriptFault, cast_int, number};
 use resin_value::{Key, KeyText, Value};
 use std::alloc::Global;
 

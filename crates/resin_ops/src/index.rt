@@ -1,10 +1,10 @@
 //! One byte of a text by its place.
 ghost use Rattle.std.specs.Prelude.{◌≡◌, ◌≤◌, ◌^◌};
-ghost use Rattle.resin_scalar.specs.Stops.{Gives};
+ghost use Rattle.resin_value.specs.Under.scalar.Stops.{Gives};
 ghost use Rattle.resin_ops.specs.Places.{place_of, indexed, seen_answer};
 
-use resin_lstr::LText;
-use resin_scalar::{CallStop, ScriptFault};
+use resin_value::under::lstr::LText;
+use resin_value::under::scalar::{CallStop, ScriptFault};
 use resin_value::{Key, Value};
 use std::alloc::Global;
 

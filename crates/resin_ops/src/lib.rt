@@ -5,6 +5,7 @@ mod arithmetic;
 mod conversions;
 mod index;
 mod operator;
+pub mod under;
 
 pub use arithmetic::arith;
 pub use conversions::{to_int, to_key, to_number, to_text};

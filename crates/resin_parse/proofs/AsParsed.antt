@@ -39,10 +39,10 @@ takes o at (suc n) what act x xs h = omega arith
 less : (m n : ℕ) (x : ℕ) (xs : List ℕ) → 0 < n → length (x ∷ xs) ≤ suc m → length (drop n (x ∷ xs)) ≤ m
 less m n x xs p le = let e : length (drop n (x ∷ xs)) ≡ length (x ∷ xs) - n = length-drop n (x ∷ xs) in omega arith
 
-stands_so : (o : Option Open) (at : ℕ) (x : ℕ) (xs : List ℕ) (s : Step) → first o at (x ∷ xs) ≡ s → Sound (Stands o at) (x ∷ xs) s
+pub stands_so : (o : Option Open) (at : ℕ) (x : ℕ) (xs : List ℕ) (s : Step) → first o at (x ∷ xs) ≡ s → Sound (Stands o at) (x ∷ xs) s
 stands_so o at x xs s e = subst (Sound (Stands o at) (x ∷ xs)) e (sound o at x xs)
 
-shorter : (o : Option Open) (n at k : ℕ) (what : Option TokenKind) (act : Act) (x : ℕ) (xs : List ℕ) → Stands o at what act (take k (x ∷ xs)) (drop k (x ∷ xs)) → length (x ∷ xs) ≤ suc n → length (drop k (x ∷ xs)) ≤ n
+pub shorter : (o : Option Open) (n at k : ℕ) (what : Option TokenKind) (act : Act) (x : ℕ) (xs : List ℕ) → Stands o at what act (take k (x ∷ xs)) (drop k (x ∷ xs)) → length (x ∷ xs) ≤ suc n → length (drop k (x ∷ xs)) ≤ n
 shorter o n at k what act x xs s le = less n k x xs (takes o at k what act x xs s) le
 
 one_token : (n : ℕ) (os : List Open) (at : ℕ) (xs : List ℕ) (k : ℕ) (shape : Shape) (act : Act) (us : List Token) (f : Option ℕ) → xs ≢ [] → length xs ≤ n
@@ -93,6 +93,11 @@ unfolding parsed
 as_parsed src tokens lexical h =
     ap (λ (l : Lexed). parsed_front src (before l.1 l.0) l.1) (as_lexed src h.0 lexical h.1.0) ∙ ap (λ ts. parsed_front src ts lexical) (sym h.1.1)
 
+pub early : (end : ℕ) (p : Program) (ts : List Token) (x : Option ℕ) → (ts ≡ [] → x ≡ None → ⊥) → if_whole end p ts x ≡ Err (fault.Syntax (place_of end ts))
+early end p [] None not = absurd (not refl refl)
+early end p [] (Some place) not = refl
+early end p (t ∷ ts) x not = refl
+
 -- the answers of `program`, which goes by lines of its own
 module _ (src : List ℕ) (tokens : List Token) (lexical : Option ℕ) (found : HasFront src tokens lexical) (line : Token → ℕ) (same : (t : Token) → line t ≡ line_of_token src t) (rest : List Token) where
   by : (o : Outcome Token Program) → under line 200 (program line) tokens ≡ o → parsed src ≡ told (unwrap_or lexical (length src)) tokens lexical o
@@ -105,16 +110,11 @@ module _ (src : List ℕ) (tokens : List Token) (lexical : Option ℕ) (found : 
   pub exact_program : (p : Program) → under line 200 (program line) tokens ≡ Got p rest → length rest ≡ 0 → lexical ≡ None → parsed src ≡ Ok p
   exact_program p e z n = by (Got p rest) e ∙ ap (λ ts. if_whole (unwrap_or lexical (length src)) p ts lexical) (none_left rest z) ∙ ap (λ x. if_whole (unwrap_or x (length src)) p [] x) n
 
-  early : (end : ℕ) (p : Program) (ts : List Token) (x : Option ℕ) → (length ts ≡ 0 → x ≡ None → ⊥) → if_whole end p ts x ≡ Err (fault.Syntax (place_of end ts))
-  early end p [] None not = absurd (not refl refl)
-  early end p [] (Some place) not = refl
-  early end p (t ∷ ts) x not = refl
-
   module _ (at place end : ℕ) (count : at ≡ length tokens - length rest) (until : end ≡ unwrap_or lexical (length src)) where
     pub exact_end : (p : Program) → under line 200 (program line) tokens ≡ Got p rest → (length rest ≡ 0 → lexical ≡ None → ⊥) → place ≡ place_of end (drop at tokens) → parsed src ≡ Err (fault.Syntax place)
     exact_end p e not is =
         let x = is_read (rules (line_of_token src)) (program (line_of_token src)) is_low 201 tokens rest p (by_lines src tokens lexical found line same rest (Got p rest) e) in
-        by (Got p rest) e ∙ early (unwrap_or lexical (length src)) p rest lexical not
+        by (Got p rest) e ∙ early (unwrap_or lexical (length src)) p rest lexical (λ n. not (ap length n))
         ∙ ap (λ n. Err (fault.Syntax n)) (placed src tokens lexical found line same rest at place end count until x.front x.ends.text is)
 
     pub exact_stop : under line 200 (program line) tokens ≡ Stop rest → place ≡ place_of end (drop at tokens) → parsed src ≡ Err (fault.Syntax place)

@@ -1,2 +1,2 @@
-pub mod Nested
 pub mod Parsed
+pub mod Meaning

@@ -8,21 +8,25 @@ ghost use Rattle.resin_program_grammar.specs.Combine.{in_braces};
 ghost use Rattle.resin_program_grammar.specs.Declarations as declarations;
 ghost use Rattle.resin_program_grammar.specs.Names as name;
 ghost use Rattle.resin_program_grammar.specs.Trees as tree;
-ghost use Rattle.resin_parse.specs.Nested.{Nests, by, line_by};
+ghost use Rattle.resin_parse_statement.specs.Nested.{by, line_by};
 
-use crate::parser::{Nested, Parser};
 use resin_form::{Cursor, Fault};
 use resin_grammar::Sign;
 use resin_grammar::sign::is_sign;
-use resin_lex::{
-    Boxed, ClassDecl, Function, Items, Property, Shared, SharedBytes, Stmt, Token, TokenKind,
-};
+use resin_lex::{ClassDecl, Function, Items, Property, Shared, SharedBytes, Token, TokenKind};
 use resin_parse_plain::Reader;
+use resin_parse_statement::braces;
 use resin_program_grammar::lead::is_modifier;
 use resin_program_grammar::tokens::begins_member;
 use resin_program_grammar::word::is_word;
-use resin_program_grammar::{Left, Members, Word};
+use resin_program_grammar::{Members, Word};
 use std::alloc::Global;
+
+/// A reader of functions, classes and what else stands at the top level of a file.
+#[derive(Clone, Copy)]
+pub struct Declarations<'l> {
+    pub reader: Reader<'l>,
+}
 
 /// A class before its first member.
 fn no_members(alloc: Global) -> Members
@@ -34,21 +38,17 @@ fn no_members(alloc: Global) -> Members
     }
 }
 
-impl<
-    'l,
-    F: Fn(Reader<'_>, &mut Cursor<'_, Token>, Nested) -> Result<(Boxed<Stmt>, Left), Fault> + Copy,
-> Parser<'l, F> {
+impl<'l> Declarations<'l> {
     /// What follows `function`.
     #[tactic(auto, unfolding(resin_program_grammar::specs::Declarations::function))]
     pub fn function(&self, tokens: &mut Cursor<'_, Token>, line: u32) -> Result<Function, Fault>
-        requires { Nests self.now.reader.depth (F.pre self.now.nested) (F.post self.now.nested) }
         ensures { Reads (by self.now.reader (declarations.function line) tokens.old) result tokens.new }
     {
         let name = self.reader.a_name(tokens)?.bytes()?;
         let parameters = self.reader.in_parameters(tokens)?;
         self.reader.expect(tokens, Sign::RightRound)?;
         self.reader.result_type(tokens)?;
-        let body = self.braces(tokens, false)?;
+        let body = braces(self.reader, tokens, false)?;
         Ok(Function {
             line,
             name,
@@ -115,7 +115,6 @@ impl<
         mut members: Members,
         line: u32,
     ) -> Result<Members, Fault>
-        requires { Nests self.now.reader.depth (F.pre self.now.nested) (F.post self.now.nested) }
         ensures { Reads (by self.now.reader (declarations.method members line) tokens.old) result tokens.new }
     {
         let method = self.function(tokens, line)?;
@@ -158,7 +157,6 @@ impl<
         members: Members,
         line: u32,
     ) -> Result<Members, Fault>
-        requires { Nests self.now.reader.depth (F.pre self.now.nested) (F.post self.now.nested) }
         ensures { Reads (by self.now.reader (declarations.modified members line) tokens.old) result tokens.new }
     {
         self.modifiers(tokens)?;
@@ -178,7 +176,6 @@ impl<
         line: u32,
         kind: &TokenKind,
     ) -> Result<Members, Fault>
-        requires { Nests self.now.reader.depth (F.pre self.now.nested) (F.post self.now.nested) }
         ensures { Reads (by self.now.reader (declarations.member members line kind.now) tokens.old) result tokens.new }
     {
         if is_word(Word::Var, kind) {
@@ -196,7 +193,6 @@ impl<
         tokens: &mut Cursor<'_, Token>,
         first: Members,
     ) -> Result<Members, Fault>
-        requires { Nests self.now.reader.depth (F.pre self.now.nested) (F.post self.now.nested) }
         ensures { Reads (by self.now.reader (declarations.more_members (line_by self.now.reader) first) tokens.old) result tokens.new }
     {
         let mut members = first;
@@ -214,7 +210,6 @@ impl<
     /// The members of a class.
     #[tactic(auto, unfolding(resin_program_grammar::specs::Declarations::members))]
     pub fn members(&self, tokens: &mut Cursor<'_, Token>) -> Result<Members, Fault>
-        requires { Nests self.now.reader.depth (F.pre self.now.nested) (F.post self.now.nested) }
         ensures { Reads (by self.now.reader (declarations.members (line_by self.now.reader)) tokens.old) result tokens.new }
     {
         self.more_members(tokens, no_members(self.reader.alloc))
@@ -222,17 +217,18 @@ impl<
 
     /// The members of a class, in braces that open here.
     pub fn members_inside(&self, tokens: &mut Cursor<'_, Token>) -> Result<Members, Fault>
-        requires nests { Nests self.now.reader.depth (F.pre self.now.nested) (F.post self.now.nested) }
-        requires room { 0 < self.now.reader.depth }
+        requires { 0 < self.now.reader.depth }
         ensures { Reads (reading (declarations.rules (line_by self.now.reader)) is_low (suc self.now.reader.depth) (name.ClassMembers) tokens.old) result tokens.new }
     {
-        self.inside().members(tokens)
+        let inner = Declarations {
+            reader: self.reader.inside(),
+        };
+        inner.members(tokens)
     }
 
     /// `{` and the members of a class.
     #[tactic(auto, unfolding(resin_program_grammar::specs::Combine::in_braces))]
     pub fn in_members(&self, tokens: &mut Cursor<'_, Token>) -> Result<Members, Fault>
-        requires { Nests self.now.reader.depth (F.pre self.now.nested) (F.post self.now.nested) }
         ensures { Reads (by self.now.reader (in_braces name.ClassMembers) tokens.old) result tokens.new }
     {
         match tokens.peek() {
@@ -264,7 +260,6 @@ impl<
     /// What follows `class`.
     #[tactic(auto, unfolding(resin_program_grammar::specs::Declarations::class))]
     pub fn class(&self, tokens: &mut Cursor<'_, Token>, line: u32) -> Result<ClassDecl, Fault>
-        requires { Nests self.now.reader.depth (F.pre self.now.nested) (F.post self.now.nested) }
         ensures { Reads (by self.now.reader (declarations.class line) tokens.old) result tokens.new }
     {
         let name = self.reader.a_name(tokens)?;
@@ -296,7 +291,6 @@ impl<
     /// What follows `final` before a class.
     #[tactic(auto, unfolding(resin_program_grammar::specs::Declarations::final_class))]
     pub fn final_class(&self, tokens: &mut Cursor<'_, Token>, line: u32) -> Result<ClassDecl, Fault>
-        requires { Nests self.now.reader.depth (F.pre self.now.nested) (F.post self.now.nested) }
         ensures { Reads (by self.now.reader (declarations.final_class line) tokens.old) result tokens.new }
     {
         self.finals(tokens)?;

@@ -7,84 +7,56 @@ ghost use Rattle.resin_lex.specs.declared.token.Token.{Token as TheToken};
 ghost use Rattle.resin_tree.specs.declared.declaration.Program.{Program as TheProgram};
 ghost use Rattle.resin_program_grammar.specs.Declarations as declarations;
 ghost use Rattle.resin_program_grammar.specs.Programs.{IsParsed, IsProgram, place_of};
+ghost use Rattle.resin_parse.specs.Meaning.{HasOneMeaning};
 ghost use Rattle.resin_parse.specs.Parsed.{IsAsParsed};
-ghost use Rattle.resin_parse.specs.Nested.{Nests, by, class_item, final_item, form_of, function_item, line_by, one_more_item, statement_item};
+ghost use Rattle.resin_parse_statement.specs.Nested.{by, class_item, final_item, function_item, line_by, one_more_item, statement_item};
 
-use crate::parser::{Nested, Parser, inside_of, statement_of};
+use crate::class::Declarations;
 use resin_form::{Cursor, Fault};
-use resin_lex::{Boxed, Item, Items, ParseFault, Program, Stmt, Token, tokens_and_fault};
+use resin_lex::{Item, Items, ParseFault, Program, Token, tokens_and_fault};
 use resin_parse_plain::{Lines, Reader};
+use resin_parse_statement::{inside_of, statement, statement_of};
+use resin_program_grammar::Word;
 use resin_program_grammar::tokens::begins_item;
 use resin_program_grammar::word::is_word;
-use resin_program_grammar::{Left, Word};
 use std::alloc::Global;
 
 /// How many constructs may be open in one another.
 const MAX_NESTING: usize = 200;
 
-/// What nests in statements, where so many constructs may still open in it.
-fn nested_by(
-    reader: Reader<'_>,
-    tokens: &mut Cursor<'_, Token>,
-    nested: Nested,
-) -> Result<(Boxed<Stmt>, Left), Fault>
-    ensures { Reads (by reader.entry (form_of (line_by reader.entry) nested) tokens.old) result tokens.new }
-{
-    let parser = Parser {
-        reader,
-        nested: nested_by,
-    };
-    match nested {
-        Nested::Statement(around) => parser.one_statement(tokens, around),
-        Nested::Link(around, chain, may) => parser.link(tokens, around, chain, may),
-        Nested::Part(in_loop, chain, test) => {
-            let whole = parser.part_from(tokens, in_loop, chain, test)?;
-            Ok((whole, Left::Nothing))
-        }
-    }
-}
-
-impl<
-    'l,
-    F: Fn(Reader<'_>, &mut Cursor<'_, Token>, Nested) -> Result<(Boxed<Stmt>, Left), Fault> + Copy,
-> Parser<'l, F> {
-    #[tactic(auto, unfolding(crate::specs::Nested::function_item))]
+impl<'l> Declarations<'l> {
+    #[tactic(auto, unfolding(resin_parse_statement::specs::Nested::function_item))]
     fn function_item(&self, tokens: &mut Cursor<'_, Token>, line: u32) -> Result<Item, Fault>
-        requires { Nests self.now.reader.depth (F.pre self.now.nested) (F.post self.now.nested) }
         ensures { Reads (by self.now.reader (function_item line) tokens.old) result tokens.new }
     {
         Ok(Item::Function(self.function(tokens, line)?))
     }
 
-    #[tactic(auto, unfolding(crate::specs::Nested::class_item))]
+    #[tactic(auto, unfolding(resin_parse_statement::specs::Nested::class_item))]
     fn class_item(&self, tokens: &mut Cursor<'_, Token>, line: u32) -> Result<Item, Fault>
-        requires { Nests self.now.reader.depth (F.pre self.now.nested) (F.post self.now.nested) }
         ensures { Reads (by self.now.reader (class_item line) tokens.old) result tokens.new }
     {
         Ok(Item::Class(self.class(tokens, line)?))
     }
 
-    #[tactic(auto, unfolding(crate::specs::Nested::final_item))]
+    #[tactic(auto, unfolding(resin_parse_statement::specs::Nested::final_item))]
     fn final_item(&self, tokens: &mut Cursor<'_, Token>, line: u32) -> Result<Item, Fault>
-        requires { Nests self.now.reader.depth (F.pre self.now.nested) (F.post self.now.nested) }
         ensures { Reads (by self.now.reader (final_item line) tokens.old) result tokens.new }
     {
         Ok(Item::Class(self.final_class(tokens, line)?))
     }
 
-    #[tactic(auto, unfolding(crate::specs::Nested::statement_item))]
+    #[tactic(auto, unfolding(resin_parse_statement::specs::Nested::statement_item))]
     fn statement_item(&self, tokens: &mut Cursor<'_, Token>) -> Result<Item, Fault>
-        requires { Nests self.now.reader.depth (F.pre self.now.nested) (F.post self.now.nested) }
         ensures { Reads (by self.now.reader (statement_item (line_by self.now.reader)) tokens.old) result tokens.new }
     {
-        let statement = statement_of(self.one_statement(tokens, inside_of(false))?);
-        Ok(Item::Statement(statement.into_inner()))
+        let read = statement_of(statement(self.reader, tokens, inside_of(false))?);
+        Ok(Item::Statement(read.into_inner()))
     }
 
     /// A function, a class or a statement, from its first token on.
-    #[tactic(auto, unfolding(resin_program_grammar::specs::Declarations::one_item, resin_program_grammar::specs::Declarations::top_item, crate::specs::Nested::function_item, crate::specs::Nested::class_item, crate::specs::Nested::final_item))]
+    #[tactic(auto, unfolding(resin_program_grammar::specs::Declarations::one_item, resin_program_grammar::specs::Declarations::top_item, resin_parse_statement::specs::Nested::function_item, resin_parse_statement::specs::Nested::class_item, resin_parse_statement::specs::Nested::final_item))]
     fn one_item(&self, tokens: &mut Cursor<'_, Token>) -> Result<Item, Fault>
-        requires { Nests self.now.reader.depth (F.pre self.now.nested) (F.post self.now.nested) }
         ensures { Reads (by self.now.reader (declarations.one_item (line_by self.now.reader)) tokens.old) result tokens.new }
     {
         match tokens.peek() {
@@ -109,13 +81,12 @@ impl<
     }
 
     /// A function, a class or a statement, put behind these.
-    #[tactic(auto, unfolding(crate::specs::Nested::one_more_item))]
+    #[tactic(auto, unfolding(resin_parse_statement::specs::Nested::one_more_item))]
     fn one_more_item(
         &self,
         tokens: &mut Cursor<'_, Token>,
         mut items: Items<Item>,
     ) -> Result<Items<Item>, Fault>
-        requires { Nests self.now.reader.depth (F.pre self.now.nested) (F.post self.now.nested) }
         ensures { Reads (by self.now.reader (one_more_item (line_by self.now.reader) items) tokens.old) result tokens.new }
     {
         let item = self.one_item(tokens)?;
@@ -129,7 +100,6 @@ impl<
         tokens: &mut Cursor<'_, Token>,
         first: Items<Item>,
     ) -> Result<Items<Item>, Fault>
-        requires { Nests self.now.reader.depth (F.pre self.now.nested) (F.post self.now.nested) }
         ensures { Reads (by self.now.reader (declarations.more_items (line_by self.now.reader) first) tokens.old) result tokens.new }
     {
         let mut items = first;
@@ -145,7 +115,6 @@ impl<
     /// What stands at the top level of a file.
     #[tactic(auto, unfolding(resin_program_grammar::specs::Declarations::top_items))]
     fn top_items(&self, tokens: &mut Cursor<'_, Token>) -> Result<Items<Item>, Fault>
-        requires { Nests self.now.reader.depth (F.pre self.now.nested) (F.post self.now.nested) }
         ensures { Reads (by self.now.reader (declarations.top_items (line_by self.now.reader)) tokens.old) result tokens.new }
     {
         self.more_items(tokens, Items::new(self.reader.alloc))
@@ -157,11 +126,7 @@ impl<
 fn read_program(reader: Reader<'_>, tokens: &mut Cursor<'_, Token>) -> Result<Program, Fault>
     ensures { Reads (by reader.entry (declarations.program (line_by reader.entry)) tokens.old) result tokens.new }
 {
-    let items = Parser {
-        reader,
-        nested: nested_by,
-    }
-    .top_items(tokens)?;
+    let items = Declarations { reader }.top_items(tokens)?;
     Ok(Program { items })
 }
 
@@ -231,4 +196,10 @@ pub fn program(alloc: Global, src: &[u8]) -> Result<Program, ParseFault>
 /// A law of the grammar: a source text is one program at most.
 pub fn texts_are_one_program()
     ensures { (src : List ℕ) (p q : TheProgram) → IsProgram src p → IsProgram src q → p ≡ q }
+{}
+
+/// A law of the grammar: each source text is exactly one of three, and is read as that. It is one program, or it stops being
+/// the front of one at one fault place, or it nests too deep at one place.
+pub fn texts_have_one_meaning()
+    ensures { (src : List ℕ) → HasOneMeaning src }
 {}

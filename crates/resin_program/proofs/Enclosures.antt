@@ -5,12 +5,12 @@ use Rattle.std.proofs.lemmas.Bool.Decides.{nat_tests}
 use Rattle.resin_base.specs.FileStore.{FileStore}
 use Rattle.resin_base.specs.TableStore.{TableStore}
 use Rattle.resin_base.specs.declared.calls.Calls.{Calls}
-use Rattle.resin_scope.specs.Frames.{Frame, outer_of, left}
+use Rattle.resin_machine.specs.Under.scope.Frames.{Frame, outer_of, left}
 use Rattle.resin_machine.specs.declared.stop.Stop.{Stop}
 use Rattle.resin_machine.specs.declared.stop.Stop.TheVariants.{Memory}
 use Rattle.resin_machine.specs.State.{State}
-use Rattle.resin_journal.specs.Events.{EventList}
-use Rattle.resin_journal.specs.Access.{write_of, events_of}
+use Rattle.resin_machine.specs.Under.journal.Events.{EventList}
+use Rattle.resin_machine.specs.Under.journal.Access.{write_of, events_of}
 use Rattle.resin_machine.specs.Keeping.{leaving}
 use Rattle.resin_machine.specs.Steps.{at_line, back_at_line, hushed, unhushed}
 use Rattle.resin_machine.specs.Variables.{in_call, after_call}

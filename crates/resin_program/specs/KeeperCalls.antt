@@ -12,7 +12,7 @@ use Rattle.resin_base.specs.declared.cell.Row.{Row}
 use Rattle.resin_base.specs.declared.faults.KeepFault.{KeepFault}
 use Rattle.resin_base.specs.declared.faults.KeepFault.TheVariants.{Failed, Memory}
 use Rattle.resin_base.specs.declared.files.Entry.{Entry}
-use Rattle.resin_scalar.specs.declared.faults.ScriptFault.TheVariants.{FuelSpent}
+use Rattle.resin_machine.specs.Under.scalar.declared.faults.ScriptFault.TheVariants.{FuelSpent}
 use Rattle.resin_machine.specs.declared.stop.Stop.{Stop}
 use Rattle.resin_machine.specs.declared.stop.Stop.TheVariants.{Fault, Keeper}
 use Rattle.resin_machine.specs.declared.stop.Stop.TheVariants.{Memory as NoMemory}

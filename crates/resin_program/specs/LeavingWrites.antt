@@ -1,8 +1,8 @@
 -- A write that leaves (RESIN's default filter in outline; the five steps and their order are this project's own). What asks a policy and what asks a
 -- filter are programs that the evaluator gives: they run the code of scripts.
 use Rattle.std.specs.Prelude.{ℕ, List, [], ◌∷◌, length, unwrap_or, Result, Ok, Err}
-use Rattle.resin_lstr.specs.Texts.{Text, policies_in_order, first_run}
-use Rattle.resin_journal.specs.declared.channel.Channel.{Channel}
+use Rattle.resin_machine.specs.Under.lstr.Texts.{Text, policies_in_order, first_run}
+use Rattle.resin_machine.specs.Under.journal.declared.channel.Channel.{Channel}
 use Rattle.resin_machine.specs.declared.stop.Stop.TheVariants.{Thrown}
 use Rattle.resin_machine.specs.Leaving.{draw, pass, deny, deny_filter}
 use Rattle.resin_program.specs.Programs.{Prog, give, stop, ◌>>=◌, tried, quietly, act}

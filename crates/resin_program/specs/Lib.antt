@@ -2,3 +2,4 @@ pub mod Programs
 pub mod Runs
 pub mod KeeperCalls
 pub mod LeavingWrites
+pub mod Under

@@ -4,8 +4,8 @@ use Rattle.std.specs.Prelude.{ℕ, ◌+◌, List, [], ◌∷◌, ◌++◌, Bool,
 use Rattle.resin_base.specs.Causes.{last_count, is_listed}
 use Rattle.resin_base.specs.FileStore.{FileStore}
 use Rattle.resin_base.specs.TableStore.{TableStore}
-use Rattle.resin_scalar.specs.declared.faults.ScriptFault.TheVariants.{FuelSpent}
-use Rattle.resin_journal.specs.Events.{EventList}
+use Rattle.resin_machine.specs.Under.scalar.declared.faults.ScriptFault.TheVariants.{FuelSpent}
+use Rattle.resin_machine.specs.Under.journal.Events.{EventList}
 use Rattle.resin_machine.specs.declared.stop.Stop.{Stop}
 use Rattle.resin_machine.specs.declared.stop.Stop.TheVariants.{Thrown, Exit, Fault, Keeper, Memory}
 use Rattle.resin_machine.specs.State.{State}

@@ -4,8 +4,8 @@ ghost use Rattle.resin_base.specs.Numbering.{Settles};
 ghost use Rattle.resin_program.specs.KeeperCalls.{Asks, kept};
 
 use resin_base::{Calls, KeepFault};
+use resin_machine::under::scalar::ScriptFault;
 use resin_machine::{Machine, Stop};
-use resin_scalar::ScriptFault;
 
 /// Lists the number of the next call. It is the fault FuelSpent exactly where no number is left.
 pub(crate) fn ask(m: &Machine, calls: &mut Calls) -> Result<(), Stop>

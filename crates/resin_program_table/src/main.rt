@@ -1,15 +1,23 @@
 //! Reads a program from each line, as code behind `<?php `, or, behind `=`, as a whole source text; `\n` and `\r` stand for
-//! those bytes. A line `A ~ B` asks whether two texts have the same tree. A line `~N~a~b~c~d~e` is read as a, N times b, c,
-//! N times d, and e. The input, and the output, which was worked out by hand from the PHP manual and this project's profile,
-//! are the table of the tests of programs.
+//! those bytes. Behind `expression: ` it reads the expression with which such a text begins. A line `A ~ B` asks whether two
+//! texts have the same tree; brackets round an expression leave no trace in one. A line `~N~a~b~c~d~e` is read as a, N times b,
+//! c, N times d, and e. The input, and the output, which was worked out by hand from the PHP manual with its table of operators
+//! and this project's profile, are the table of the tests of programs and expressions.
 #![tactic(auto)]
 
 ghost use Rattle.std.specs.Prelude.{◌≤◌, length};
 
-use resin_lex::{ParseFault, Program};
+mod spelling;
+
+use resin_lex::{Expr, ParseFault, Program, tokens};
 use resin_parse::program;
+use resin_parse_expr::expression;
+use spelling::Spelling;
 use std::alloc::{AllocError, Global};
 use std::io;
+
+/// What reading an expression comes to: the tree and the count of its tokens, or the fault.
+type Found = Result<(Expr, usize), ParseFault>;
 
 /// The text that a line stands for.
 fn unescaped(alloc: Global, line: &str) -> Result<String, AllocError> {
@@ -32,16 +40,32 @@ fn unescaped(alloc: Global, line: &str) -> Result<String, AllocError> {
     Ok(out)
 }
 
-fn read(alloc: Global, line: &str) -> Result<Result<Program, ParseFault>, AllocError> {
+/// The source text that a line stands for.
+fn source_text(alloc: Global, line: &str) -> Result<String, AllocError> {
     let source = unescaped(alloc, line)?;
-    let text = match source.as_str().strip_prefix("=") {
-        Some(whole) => format!(in alloc; "{whole}")?,
-        None => format!(in alloc; "<?php {source}")?,
-    };
+    match source.as_str().strip_prefix("=") {
+        Some(whole) => format!(in alloc; "{whole}"),
+        None => format!(in alloc; "<?php {source}"),
+    }
+}
+
+fn read(alloc: Global, line: &str) -> Result<Result<Program, ParseFault>, AllocError> {
+    let text = source_text(alloc, line)?;
     if text.len() > 16_777_216 {
         return Ok(Err(ParseFault::Memory));
     }
     Ok(program(alloc, text.as_bytes()))
+}
+
+fn read_expression(alloc: Global, line: &str) -> Result<Found, AllocError> {
+    let text = source_text(alloc, line)?;
+    if text.len() > 16_777_216 {
+        return Ok(Err(ParseFault::Memory));
+    }
+    match tokens(alloc, text.as_bytes()) {
+        Ok(list) => Ok(expression(alloc, &list, 0, 0)),
+        Err(fault) => Ok(Err(fault)),
+    }
 }
 
 fn shown_fault(alloc: Global, fault: ParseFault) -> Result<String, AllocError> {
@@ -50,6 +74,28 @@ fn shown_fault(alloc: Global, fault: ParseFault) -> Result<String, AllocError> {
         ParseFault::TooDeep { offset } => format!(in alloc; "too deep at {offset}"),
         ParseFault::Memory => String::from_str(alloc, "no memory"),
     }
+}
+
+fn shown_sameness(alloc: Global, a: Spelling, b: Spelling) -> Result<String, AllocError> {
+    let (a, b) = (a.finish()?, b.finish()?);
+    let words = if a.as_slice() == b.as_slice() {
+        "the same tree"
+    } else {
+        "another tree"
+    };
+    String::from_str(alloc, words)
+}
+
+fn spelled(alloc: Global, program: &Program) -> Spelling {
+    let mut out = Spelling::new(alloc);
+    spelling::program(&mut out, program);
+    out
+}
+
+fn spelled_expression(alloc: Global, e: &Expr) -> Spelling {
+    let mut out = Spelling::new(alloc);
+    spelling::expression(&mut out, e);
+    out
 }
 
 fn shown(alloc: Global, found: Result<Program, ParseFault>) -> Result<String, AllocError> {
@@ -62,17 +108,32 @@ fn shown(alloc: Global, found: Result<Program, ParseFault>) -> Result<String, Al
     }
 }
 
+fn shown_expression(alloc: Global, found: Found) -> Result<String, AllocError> {
+    match found {
+        Ok((_, count)) => format!(in alloc; "{count} tokens"),
+        Err(fault) => shown_fault(alloc, fault),
+    }
+}
+
 fn compared(alloc: Global, left: &str, right: &str) -> Result<String, AllocError> {
     match (read(alloc, left)?, read(alloc, right)?) {
-        (Ok(a), Ok(b)) => {
-            let first = format!(in alloc; "{a:?}")?;
-            let second = format!(in alloc; "{b:?}")?;
-            if first.as_str() == second.as_str() {
-                String::from_str(alloc, "the same tree")
-            } else {
-                String::from_str(alloc, "another tree")
-            }
-        }
+        (Ok(a), Ok(b)) => shown_sameness(alloc, spelled(alloc, &a), spelled(alloc, &b)),
+        (Err(fault), _) => shown_fault(alloc, fault),
+        (_, Err(fault)) => shown_fault(alloc, fault),
+    }
+}
+
+/// The spelling of the expression that a line begins with.
+fn read_spelling(alloc: Global, line: &str) -> Result<Result<Spelling, ParseFault>, AllocError> {
+    match read_expression(alloc, line)? {
+        Ok((tree, _)) => Ok(Ok(spelled_expression(alloc, &tree))),
+        Err(fault) => Ok(Err(fault)),
+    }
+}
+
+fn compared_expressions(alloc: Global, left: &str, right: &str) -> Result<String, AllocError> {
+    match (read_spelling(alloc, left)?, read_spelling(alloc, right)?) {
+        (Ok(a), Ok(b)) => shown_sameness(alloc, a, b),
         (Err(fault), _) => shown_fault(alloc, fault),
         (_, Err(fault)) => shown_fault(alloc, fault),
     }
@@ -98,7 +159,7 @@ fn repeated(alloc: Global, line: &str) -> Result<String, AllocError> {
     Ok(out)
 }
 
-fn answer(alloc: Global, line: &str) -> Result<String, AllocError> {
+fn answer_program(alloc: Global, line: &str) -> Result<String, AllocError> {
     if let Some(rest) = line.strip_prefix("~") {
         let source = repeated(alloc, rest)?;
         return shown(alloc, read(alloc, source.as_str())?);
@@ -106,6 +167,24 @@ fn answer(alloc: Global, line: &str) -> Result<String, AllocError> {
     match line.split_once(" ~ ") {
         Some((left, right)) => compared(alloc, left, right),
         None => shown(alloc, read(alloc, line)?),
+    }
+}
+
+fn answer_expression(alloc: Global, line: &str) -> Result<String, AllocError> {
+    if let Some(rest) = line.strip_prefix("~") {
+        let source = repeated(alloc, rest)?;
+        return shown_expression(alloc, read_expression(alloc, source.as_str())?);
+    }
+    match line.split_once(" ~ ") {
+        Some((left, right)) => compared_expressions(alloc, left, right),
+        None => shown_expression(alloc, read_expression(alloc, line)?),
+    }
+}
+
+fn answer(alloc: Global, line: &str) -> Result<String, AllocError> {
+    match line.strip_prefix("expression: ") {
+        Some(rest) => answer_expression(alloc, rest),
+        None => answer_program(alloc, line),
     }
 }
 

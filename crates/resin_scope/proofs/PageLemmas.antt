@@ -2,11 +2,11 @@
 use Rattle.std.proofs.Common.{◌≡◌, ℕ, zero, suc, ◌+◌, ◌<◌, ◌≤◌, Bool, true, false, cond, List, [], ◌∷◌, ◌++◌, length, get_or, take, refl, sym, ap, subst, ◌∙◌, arith, true≢false}
 use Rattle.std.specs.Prelude.{not, ◌||◌, ◌&&◌, Ok, Err}
 use Rattle.std.specs.List.{list_any}
-use Rattle.resin_bytes.specs.declared.header.Header.{Header}
-use Rattle.resin_lstr.specs.Texts.{Text, LONGEST}
-use Rattle.resin_lstr.specs.Faults.{GivesText}
-use Rattle.resin_lstr.specs.declared.text.TextFault.{TextFault}
-use Rattle.resin_lstr.specs.declared.text.TextFault.TheVariants.{TooLong, Memory}
+use Rattle.resin_value.specs.Under.bytes.declared.header.Header.{Header}
+use Rattle.resin_value.specs.Under.lstr.Texts.{Text, LONGEST}
+use Rattle.resin_value.specs.Under.lstr.Faults.{GivesText}
+use Rattle.resin_value.specs.Under.lstr.declared.text.TextFault.{TextFault}
+use Rattle.resin_value.specs.Under.lstr.declared.text.TextFault.TheVariants.{TooLong, Memory}
 use Rattle.resin_scope.specs.Pages.{is_same_name, other_headers, headers_with, innermost, appended_to_innermost, Buffers}
 
 -- where no header has the name, none is taken out

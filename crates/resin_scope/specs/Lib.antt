@@ -2,3 +2,4 @@ pub mod Names
 pub mod Frames
 pub mod Chained
 pub mod Pages
+pub mod Under

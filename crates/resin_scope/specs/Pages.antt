@@ -2,10 +2,10 @@
 use Rattle.std.specs.Prelude.{◌≡◌, ℕ, Bool, ◌==◌, ◌&&◌, ◌||◌, not, nat_eq, nat_le, List, [], ◌∷◌, ◌++◌, length, filter, codes, if◌then◌else◌, ◌<◌, ◌≤◌, Result, Ok, Err}
 use Rattle.std.specs.Cmp.Lexicographic.{pointwise}
 use Rattle.std.specs.Str.{str_to_ascii_lowercase}
-use Rattle.resin_bytes.specs.declared.header.Header.{Header}
-use Rattle.resin_lstr.specs.Texts.{Text, LONGEST}
-use Rattle.resin_lstr.specs.declared.text.TextFault.{TextFault}
-use Rattle.resin_lstr.specs.declared.text.TextFault.TheVariants.{TooLong, Memory}
+use Rattle.resin_value.specs.Under.bytes.declared.header.Header.{Header}
+use Rattle.resin_value.specs.Under.lstr.Texts.{Text, LONGEST}
+use Rattle.resin_value.specs.Under.lstr.declared.text.TextFault.{TextFault}
+use Rattle.resin_value.specs.Under.lstr.declared.text.TextFault.TheVariants.{TooLong, Memory}
 
 -- two names of headers are the same, whatever the case of ASCII letters
 abbrev pub is_same_name : List ℕ → List ℕ → Bool

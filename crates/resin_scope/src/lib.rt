@@ -5,6 +5,7 @@ mod chains;
 mod names;
 mod page;
 mod scopes;
+pub mod under;
 
 pub use chains::Chains;
 pub use page::Page;

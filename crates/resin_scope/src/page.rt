@@ -1,11 +1,11 @@
 //! The answer under way.
 ghost use Rattle.std.specs.Prelude.{◌≡◌, [], ◌∷◌, ◌++◌, ◌<◌, length, OnOk, OnErr, IfOk, MatchResult, Ok, Err};
 ghost use Rattle.std.specs.List.{list_any};
-ghost use Rattle.resin_bytes.specs.declared.header.Header.{Header as HeaderField};
+ghost use Rattle.resin_value.specs.Under.bytes.declared.header.Header.{Header as HeaderField};
 ghost use Rattle.resin_scope.specs.Pages.{Buffers, is_same_name, is_kept_status, other_headers, headers_with, status_with};
 
-use resin_bytes::{Bytes, Header, HeaderList};
-use resin_lstr::{LText, TextFault, Texts};
+use resin_value::under::bytes::{Bytes, Header, HeaderList};
+use resin_value::under::lstr::{LText, TextFault, Texts};
 use std::alloc::{AllocError, Global};
 
 /// The answer under way of a request: the status, the header lines that scripts set, the body that went out, the records of the mail that went out,

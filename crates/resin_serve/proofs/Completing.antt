@@ -1,5 +1,5 @@
 -- What a calm outside leaves of a run over a good trace.
-use Rattle.std.proofs.Common.{◌≡◌, ℕ, ◌+◌, ◌<◌, ◌≤◌, min, List, [], ◌++◌, length, Option, Some, sym, ap, ◌∙◌, arith, subst, inl, inr, Bool}
+use Rattle.std.proofs.Common.{◌≡◌, ℕ, ◌+◌, ◌<◌, ◌≤◌, min, List, [], ◌++◌, length, Option, Some, refl, sym, ap, ◌∙◌, arith, subst, inl, inr, Bool}
 use Rattle.std.specs.Prelude.{Ok, Err}
 use Rattle.std.proofs.lemmas.List.{nil_from_length}
 use Rattle.resin_base.specs.Causes.{Rose, last_count}
@@ -14,7 +14,7 @@ use Rattle.resin_serve.specs.Meaning.{Meaning}
 use Rattle.resin_serve.specs.Ran.{World}
 use Rattle.resin_serve.specs.Gives.{Sinks, CausedIn}
 use Rattle.resin_serve.specs.Kept.{Keepers, keepers, Kept, failed_after}
-use Rattle.resin_serve.specs.Whole_run.{Runs, ReadCause, given_of_status}
+use Rattle.resin_serve.specs.Whole_run.{Runs, RunsFrom, ReadCause, given_of_status}
 use Rattle.resin_serve.specs.Headline.{Completes, Calm}
 use Rattle.resin_serve.proofs.Runs.{ran_stop}
 use Rattle.resin_serve.proofs.Keeping.{kept_none}
@@ -48,11 +48,11 @@ no_fails k k' h e f t =
     h.failed ∙ ap (λ l. l ++ failed_after k.made h.calls) e ∙ nil_from_length (failed_after k.made h.calls) none
 
 -- nothing was done, for want of memory
-pub runs_nothing : (R : Meaning) (K T U : List ℕ) (w : World) → Runs StatusMemory R K T U w w
-runs_nothing R K T U w = λ records rest r. ran_stop _ R K 1 _ w
+pub runs_nothing : (R : Meaning) (K T : List ℕ) (now : Option (List ℕ)) (w : World) → now ≡ Some T → RunsFrom StatusMemory R K T now w w
+runs_nothing R K T now w told = record { taken = []; left = T; told = told; front = refl; runs = λ records rest r. ran_stop _ R K 1 _ w }
 
-pub runs_with : (status : Status) (a b : ℕ) (K T U : List ℕ) (old new : World) → a ≡ b → Runs status (meaning a) K T U old new → Runs status (meaning b) K T U old new
-runs_with status a b K T U old new e r = subst (λ n. Runs status (meaning n) K T U old new) e r
+pub runs_with : (status : Status) (a b : ℕ) (K T : List ℕ) (now : Option (List ℕ)) (old new : World) → a ≡ b → RunsFrom status (meaning a) K T now old new → RunsFrom status (meaning b) K T now old new
+runs_with status a b K T now old new e r = subst (λ n. RunsFrom status (meaning n) K T now old new) e r
 
 pub some_same : (a b : ℕ) → Some a ≡ Some b → a ≡ b
 some_same a b e = cc

@@ -4,7 +4,7 @@ use Rattle.std.proofs.lemmas.List.{append-nil, drop_at, drop_all}
 use Rattle.resin_http.specs.Stream.{Answer, answers}
 use Rattle.resin_http.proofs.StreamLemmas.{answers_grow}
 use Rattle.resin_trace.specs.declared.event.TraceEvent.TheVariants.{Piece}
-use Rattle.resin_serve.specs.Meaning.{Owed, Reply, life, added, order, tagged, bytes_of, after_of}
+use Rattle.resin_serve.specs.Meaning.{Owed, Reply, life, added, order, tagged, bytes_of, after_of, calls_of}
 use Rattle.resin_serve.specs.Cutting.{pieces_on, joined, all_asked, all_told, AnyCutting, AskedTells}
 use Rattle.resin_serve.proofs.Event_runs.{life_piece}
 
@@ -44,7 +44,7 @@ any_cutting seen c (p ∷ ps) =
     ∙ adds_up s p.0 (joined ps) ∙ ap (λ l. drop (length (answers s)) (answers l)) (append_assoc s p.0 (joined ps))
 
 pub asked_tells : AskedTells
-asked_tells R K s number [] [] e = (refl, refl)
+asked_tells R K s number [] [] e = (refl, refl, refl)
 asked_tells R K s number [] (y ∷ ys) e = absurd (cc)
 asked_tells R K s number (x ∷ xs) [] e = absurd (cc)
 asked_tells R K s number (x ∷ xs) (y ∷ ys) e =
@@ -54,4 +54,5 @@ asked_tells R K s number (x ∷ xs) (y ∷ ys) e =
     let go = asked_tells R K (R K s number x.conn x.asked).after (number + 1) xs ys tail in (
       ap (λ l. tagged (R K s number x.conn x.asked) ++ l) go.0 ∙ ap (λ (r : Reply). tagged r ++ bytes_of R K r.after (number + 1) ys) same,
       go.1 ∙ ap (λ (r : Reply). after_of R K r.after (number + 1) ys) same,
+      ap (λ l. (R K s number x.conn x.asked).is.calls ++ l) go.2 ∙ ap (λ (r : Reply). r.is.calls ++ calls_of R K r.after (number + 1) ys) same,
     )

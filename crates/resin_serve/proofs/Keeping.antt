@@ -7,11 +7,11 @@ use Rattle.resin_base.specs.Numbering.{RiseWithin}
 use Rattle.resin_site.specs.Keeping.{Later}
 use Rattle.resin_serve.specs.Kept.{Call, failed_after, of_files, of_tables, Keepers, RoseBy, Kept}
 
-tells_none : (a : Option (List Bool)) → TellsMore a a []
+pub tells_none : (a : Option (List Bool)) → TellsMore a a []
 tells_none None = tt
 tells_none (Some xs) = sym (append-nil xs)
 
-tells_then : (a b c : Option (List Bool)) (x y : List Bool) → TellsMore a b x → TellsMore b c y → TellsMore a c (x ++ y)
+pub tells_then : (a b c : Option (List Bool)) (x y : List Bool) → TellsMore a b x → TellsMore b c y → TellsMore a c (x ++ y)
 tells_then a b None x y h k = tt
 tells_then None None (Some zs) x y h k = absurd k
 tells_then None (Some ys) (Some zs) x y h k = absurd h

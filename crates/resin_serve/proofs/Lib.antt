@@ -6,6 +6,7 @@ pub mod Streams
 pub mod Line_runs
 pub mod Event_runs
 pub mod Request_kept
+pub mod Calling
 pub mod Unsaid
 pub mod Ready_runs
 pub mod Serve_runs
@@ -13,4 +14,5 @@ pub mod Wording
 pub mod Completing
 pub mod Cuttings
 pub mod Lives
+pub mod Alike
 pub mod Marking

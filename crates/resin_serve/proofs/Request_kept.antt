@@ -75,7 +75,7 @@ not_above : (low most k : ℕ) (xs : List ℕ) → RiseWithin low most xs → mo
 not_above low most k [] r l = refl
 not_above low most k (x ∷ xs) r l = let le : x ≤ most = r.1 in ap (λ b. b || is_listed xs k) (differs x k (omega arith)) ∙ not_above x most k xs r.2 l
 
-listed_append : (xs ys : List ℕ) (k : ℕ) → is_listed (xs ++ ys) k ≡ (is_listed xs k || is_listed ys k)
+pub listed_append : (xs ys : List ℕ) (k : ℕ) → is_listed (xs ++ ys) k ≡ (is_listed xs k || is_listed ys k)
 listed_append [] ys k = refl
 listed_append (x ∷ xs) ys k = elim (nat_eq x k) as (λ b. (b || is_listed (xs ++ ys) k) ≡ ((b || is_listed xs k) || is_listed ys k)) [ true ↦ refl | false ↦ listed_append xs ys k ]
 

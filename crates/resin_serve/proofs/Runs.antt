@@ -4,8 +4,8 @@ use Rattle.std.specs.Prelude.{⊤}
 use Rattle.std.proofs.lemmas.List.{append-nil}
 use Rattle.resin_serve.specs.declared.give.Given.{Given}
 use Rattle.resin_serve.specs.declared.give.Given.TheVariants.{Whole, Fault, Memory, NotYet}
-use Rattle.resin_site.specs.Keeping.{Store, St, WhereTold}
-use Rattle.resin_serve.specs.Meaning.{Meaning, Owed, tagged, reply, bytes_of, after_of, AllObey}
+use Rattle.resin_site.specs.Keeping.{Store, St, WhereTold, Later, Tells}
+use Rattle.resin_serve.specs.Meaning.{Meaning, Owed, tagged, reply, bytes_of, after_of, calls_of, AllObey}
 use Rattle.std.specs.declared.alloc.AllocError.{AllocError}
 use Rattle.std.specs.Prelude.{Ok, Err}
 use Rattle.resin_http.specs.Stream.{asks, refuses}
@@ -18,12 +18,12 @@ use Rattle.resin_site.specs.Serving.{Served, IsReply}
 use Rattle.resin_site.specs.Outcomes.{refusal_text}
 use Rattle.resin_journal.specs.Events.{EventList}
 use Rattle.resin_journal.specs.Lines.{log_of}
-use Rattle.resin_program.specs.Programs.{KeeperCall}
 use Rattle.resin_program.specs.Runs.{Reached}
 use Rattle.resin_site.specs.Replies as site
 use Rattle.resin_serve.specs.Asked.{is_unbuilt, recorded, meaning}
 use Rattle.resin_serve.specs.Records.{record_text}
-use Rattle.resin_serve.specs.Ran.{Grew, part, World, Gained, IsState, Giving, Before, Amid, Meeting, RanFrom, Ran}
+use Rattle.resin_serve.specs.Ran.{Grew, part, World, Gained, IsState, Called, Giving, Before, Amid, Meeting, RanFrom, Ran}
+use Rattle.resin_serve.proofs.Calling.{called_by, called_none, called_then, called_on, calls_append}
 
 pub bytes_append : (R : Meaning) (K : List ℕ) (s : St) (n m : ℕ) (xs ys : List Owed) → m ≡ n + length xs
     → bytes_of R K s n (xs ++ ys) ≡ bytes_of R K s n xs ++ bytes_of R K (after_of R K s n xs) m ys
@@ -68,8 +68,8 @@ gained_trans a b c x y h k = record {
 }
 
 giving_then : (Q : Owed → Type 0) (R : Meaning) (K : List ℕ) (s : St) (n m : ℕ) (xs ys : List Owed) (old mid new : World)
-    → m ≡ n + length xs → Gained old mid (bytes_of R K s n xs) → AllObey R K s n xs → Giving Q R K (after_of R K s n xs) m ys mid new → Giving Q R K s n (xs ++ ys) old new
-giving_then Q R K s n m xs ys old mid new e a l h =
+    → m ≡ n + length xs → Gained old mid (bytes_of R K s n xs) → AllObey R K s n xs → Called K (calls_of R K s n xs) old mid → Giving Q R K (after_of R K s n xs) m ys mid new → Giving Q R K s n (xs ++ ys) old new
+giving_then Q R K s n m xs ys old mid new e a l c h =
     let num : m + length h.done ≡ n + length (xs ++ h.done) = omega (arith, length-append xs h.done) in
     let st : after_of R K (after_of R K s n xs) m h.done ≡ after_of R K s n (xs ++ h.done) = sym (after_append R K s n m xs h.done e) in
     record {
@@ -86,23 +86,25 @@ giving_then Q R K s n m xs ys old mid new e a l h =
       lawful = subst (AllObey R K s n) (sym (append_assoc xs h.done (h.now ∷ []))) (all_obey_append R K s n m xs (h.done ++ h.now ∷ []) e l h.lawful);
       gained = subst (Gained old new) (sym (append_assoc (bytes_of R K s n xs) _ h.got) ∙ ap (λ l. l ++ h.got) (sym (bytes_append R K s n m xs h.done e)))
           (gained_trans old mid new _ _ a h.gained);
+      called = subst (λ l. Called K (calls_of R K s n l) old new) (sym (append_assoc xs h.done (h.now ∷ []))) (called_on R K s n m xs (h.done ++ h.now ∷ []) old mid new e c h.called);
       state = subst (IsState new) (sym (after_append R K s n m xs (h.done ++ h.now ∷ []) e) ∙ ap (after_of R K s n) (sym (append_assoc xs h.done (h.now ∷ [])))) h.state;
     }
 
 before_then : (R : Meaning) (K : List ℕ) (s : St) (n m : ℕ) (xs ys : List Owed) (old mid new : World)
-    → m ≡ n + length xs → Gained old mid (bytes_of R K s n xs) → AllObey R K s n xs → Before R K (after_of R K s n xs) m ys mid new → Before R K s n (xs ++ ys) old new
-before_then R K s n m xs ys old mid new e a l h = record {
+    → m ≡ n + length xs → Gained old mid (bytes_of R K s n xs) → AllObey R K s n xs → Called K (calls_of R K s n xs) old mid → Before R K (after_of R K s n xs) m ys mid new → Before R K s n (xs ++ ys) old new
+before_then R K s n m xs ys old mid new e a l c h = record {
   done = xs ++ h.done;
   later = h.later;
   is = ap (λ l. xs ++ l) h.is ∙ sym (append_assoc xs h.done h.later);
   lawful = all_obey_append R K s n m xs h.done e l h.lawful;
   gained = subst (Gained old new) (sym (bytes_append R K s n m xs h.done e)) (gained_trans old mid new _ _ a h.gained);
+  called = called_on R K s n m xs h.done old mid new e c h.called;
   state = subst (IsState new) (sym (after_append R K s n m xs h.done e)) h.state;
 }
 
 amid_then : (R : Meaning) (K : List ℕ) (s : St) (n m : ℕ) (xs ys : List Owed) (old mid new : World)
-    → m ≡ n + length xs → Gained old mid (bytes_of R K s n xs) → AllObey R K s n xs → Amid R K (after_of R K s n xs) m ys mid new → Amid R K s n (xs ++ ys) old new
-amid_then R K s n m xs ys old mid new e a l h =
+    → m ≡ n + length xs → Gained old mid (bytes_of R K s n xs) → AllObey R K s n xs → Called K (calls_of R K s n xs) old mid → Amid R K (after_of R K s n xs) m ys mid new → Amid R K s n (xs ++ ys) old new
+amid_then R K s n m xs ys old mid new e a l c h =
     let num : m + length h.done ≡ n + length (xs ++ h.done) = omega (arith, length-append xs h.done) in
     let st : after_of R K (after_of R K s n xs) m h.done ≡ after_of R K s n (xs ++ h.done) = sym (after_append R K s n m xs h.done e) in
     record {
@@ -116,12 +118,14 @@ amid_then R K s n m xs ys old mid new e a l h =
       reached = subst (λ t. Reached h.at (reply R K t (n + length (xs ++ h.done)) h.now).moments) st
           (subst (λ k. Reached h.at (reply R K (after_of R K (after_of R K s n xs) m h.done) k h.now).moments) num h.reached);
       made = h.made ∙ ap (λ (t : St). t.made + length h.at.calls) st;
+      called = subst (λ l. Called K l old new) (sym (append_assoc (calls_of R K s n xs) _ h.at.calls) ∙ ap (λ l. l ++ h.at.calls) (sym (calls_append R K s n m xs h.done e)))
+          (called_then K (calls_of R K s n xs) _ old mid new c h.called);
       state = h.state;
     }
 
 meeting_then : (R : Meaning) (K : List ℕ) (s : St) (n m : ℕ) (xs ys : List Owed) (old mid new : World)
-    → m ≡ n + length xs → Gained old mid (bytes_of R K s n xs) → AllObey R K s n xs → Meeting R K (after_of R K s n xs) m ys mid new → Meeting R K s n (xs ++ ys) old new
-meeting_then R K s n m xs ys old mid new e a l h =
+    → m ≡ n + length xs → Gained old mid (bytes_of R K s n xs) → AllObey R K s n xs → Called K (calls_of R K s n xs) old mid → Meeting R K (after_of R K s n xs) m ys mid new → Meeting R K s n (xs ++ ys) old new
+meeting_then R K s n m xs ys old mid new e a l c h =
     let num : m + length h.done ≡ n + length (xs ++ h.done) = omega (arith, length-append xs h.done) in
     let st : after_of R K (after_of R K s n xs) m h.done ≡ after_of R K s n (xs ++ h.done) = sym (after_append R K s n m xs h.done e) in
     record {
@@ -133,22 +137,24 @@ meeting_then R K s n m xs ys old mid new e a l h =
           ∙ ap (λ t. (reply R K t (m + length h.done) h.now).not_yet) (sym st) ∙ h.not_yet;
       lawful = all_obey_append R K s n m xs h.done e l h.lawful;
       gained = subst (Gained old new) (sym (bytes_append R K s n m xs h.done e)) (gained_trans old mid new _ _ a h.gained);
+      called = subst (λ l. Called K (calls_of R K s n l) old new) (sym (append_assoc xs h.done (h.now ∷ []))) (called_on R K s n m xs (h.done ++ h.now ∷ []) old mid new e c h.called);
       state = subst (IsState new) (sym (after_append R K s n m xs (h.done ++ h.now ∷ []) e) ∙ ap (after_of R K s n) (sym (append_assoc xs h.done (h.now ∷ [])))) h.state;
     }
 
 -- what goes on from a state that a whole run reached
 pub through_then : (g : Given) (Q : Owed → Type 0) (R : Meaning) (K : List ℕ) (s : St) (n m : ℕ) (xs ys : List Owed) (old mid new : World)
-    → m ≡ n + length xs → Gained old mid (bytes_of R K s n xs) → AllObey R K s n xs → RanFrom g Q R K (after_of R K s n xs) m ys mid new → RanFrom g Q R K s n (xs ++ ys) old new
-through_then Whole Q R K s n m xs ys old mid new e a l h = record {
+    → m ≡ n + length xs → Gained old mid (bytes_of R K s n xs) → AllObey R K s n xs → Called K (calls_of R K s n xs) old mid → RanFrom g Q R K (after_of R K s n xs) m ys mid new → RanFrom g Q R K s n (xs ++ ys) old new
+through_then Whole Q R K s n m xs ys old mid new e a l c h = record {
   lawful = all_obey_append R K s n m xs ys e l h.lawful;
   gained = subst (Gained old new) (sym (bytes_append R K s n m xs ys e)) (gained_trans old mid new _ _ a h.gained);
+  called = called_on R K s n m xs ys old mid new e c h.called;
   state = subst (IsState new) (sym (after_append R K s n m xs ys e)) h.state;
 }
-through_then Fault Q R K s n m xs ys old mid new e a l h = giving_then Q R K s n m xs ys old mid new e a l h
-through_then Memory Q R K s n m xs ys old mid new e a l (inl h) = inl (giving_then (λ _. ⊤) R K s n m xs ys old mid new e a l h)
-through_then Memory Q R K s n m xs ys old mid new e a l (inr (inl h)) = inr (inl (before_then R K s n m xs ys old mid new e a l h))
-through_then Memory Q R K s n m xs ys old mid new e a l (inr (inr h)) = inr (inr (amid_then R K s n m xs ys old mid new e a l h))
-through_then NotYet Q R K s n m xs ys old mid new e a l h = meeting_then R K s n m xs ys old mid new e a l h
+through_then Fault Q R K s n m xs ys old mid new e a l c h = giving_then Q R K s n m xs ys old mid new e a l c h
+through_then Memory Q R K s n m xs ys old mid new e a l c (inl h) = inl (giving_then (λ _. ⊤) R K s n m xs ys old mid new e a l c h)
+through_then Memory Q R K s n m xs ys old mid new e a l c (inr (inl h)) = inr (inl (before_then R K s n m xs ys old mid new e a l c h))
+through_then Memory Q R K s n m xs ys old mid new e a l c (inr (inr h)) = inr (inr (amid_then R K s n m xs ys old mid new e a l c h))
+through_then NotYet Q R K s n m xs ys old mid new e a l c h = meeting_then R K s n m xs ys old mid new e a l c h
 
 at_state : (w : World) (t : St) (P : St → Type 0) → IsState w t → WhereTold w.store (λ s. P (record { store = s; made = w.made })) → P t
 at_state w t P i h =
@@ -163,7 +169,7 @@ pub ran_then : (g : Given) (Q Q' : Owed → Type 0) (R : Meaning) (K : List ℕ)
     → m ≡ n + length xs → Ran Whole Q' R K n xs old mid → Ran g Q R K m ys mid new → Ran g Q R K n (xs ++ ys) old new
 unfolding Ran
 ran_then g Q Q' R K n m xs ys old mid new e a h = where_then old.store _ _ (λ s t.
-    through_then g Q R K (record { store = s; made = old.made }) n m xs ys old mid new e t.gained t.lawful
+    through_then g Q R K (record { store = s; made = old.made }) n m xs ys old mid new e t.gained t.lawful t.called
     (at_state mid _ (λ t. RanFrom g Q R K t m ys mid new) t.state h)) a
 
 giving_more : (Q : Owed → Type 0) (R : Meaning) (K : List ℕ) (s : St) (n : ℕ) (xs ys : List Owed) (old new : World)
@@ -180,6 +186,7 @@ giving_more Q R K s n xs ys old new h = record {
   some = h.some;
   lawful = h.lawful;
   gained = h.gained;
+  called = h.called;
   state = h.state;
 }
 
@@ -195,6 +202,7 @@ more_from Memory Q R K s n xs ys old new ne (inr (inl h)) = inr (inl (record {
   is = ap (λ l. l ++ ys) h.is ∙ append_assoc h.done h.later ys;
   lawful = h.lawful;
   gained = h.gained;
+  called = h.called;
   state = h.state;
 }))
 more_from Memory Q R K s n xs ys old new ne (inr (inr h)) = inr (inr (record {
@@ -204,6 +212,7 @@ more_from Memory Q R K s n xs ys old new ne (inr (inr h)) = inr (inr (record {
   is = ap (λ l. l ++ ys) h.is ∙ append_assoc h.done (h.now ∷ h.later) ys;
   lawful = h.lawful;
   gained = h.gained;
+  called = h.called;
   at = h.at;
   reached = h.reached;
   made = h.made;
@@ -217,6 +226,7 @@ more_from NotYet Q R K s n xs ys old new ne h = record {
   not_yet = h.not_yet;
   lawful = h.lawful;
   gained = h.gained;
+  called = h.called;
   state = h.state;
 }
 
@@ -235,12 +245,12 @@ told_with (Some s) P f = f s refl
 -- no answer was served
 pub ran_none : (Q : Owed → Type 0) (R : Meaning) (K : List ℕ) (n : ℕ) (w : World) → Ran Whole Q R K n [] w w
 unfolding Ran
-ran_none Q R K n w = told_with w.store _ (λ s e. record { lawful = tt; gained = gained_none w; state = (refl, e) })
+ran_none Q R K n w = told_with w.store _ (λ s e. record { lawful = tt; gained = gained_none w; called = called_none K w; state = (refl, e) })
 
 -- nothing was done, for want of memory
 pub ran_stop : (Q : Owed → Type 0) (R : Meaning) (K : List ℕ) (n : ℕ) (xs : List Owed) (w : World) → Ran Memory Q R K n xs w w
 unfolding Ran
-ran_stop Q R K n xs w = told_with w.store _ (λ s e. inr (inl (record { done = []; later = xs; is = refl; lawful = tt; gained = gained_none w; state = (refl, e) })))
+ran_stop Q R K n xs w = told_with w.store _ (λ s e. inr (inl (record { done = []; later = xs; is = refl; lawful = tt; gained = gained_none w; called = called_none K w; state = (refl, e) })))
 
 -- the answer whose bytes were given fits
 pub ran_near : (g : Given) (Q Q' : Owed → Type 0) (R : Meaning) (K : List ℕ) (n : ℕ) (xs : List Owed) (old new : World)
@@ -259,16 +269,21 @@ ran_near Fault Q Q' R K n xs old new f h = where_then old.store _ _ (λ s t. rec
   some = t.some;
   lawful = t.lawful;
   gained = t.gained;
+  called = t.called;
   state = t.state;
 }) h
 ran_near Memory Q Q' R K n xs old new f h = h
 ran_near NotYet Q Q' R K n xs old new f h = h
 
+-- the calls of one answer
+one_called : (R : Meaning) (K : List ℕ) (s : St) (n : ℕ) (x : Owed) (old new : World) → Called K (reply R K s n x).is.calls old new → Called K (calls_of R K s n (x ∷ [])) old new
+one_called R K s n x old new c = subst (λ l. Called K l old new) (sym (append-nil (reply R K s n x).is.calls)) c
+
 -- one answer, of which a front of its bytes was given
 one_given : (g : Given) (Q : Owed → Type 0) (R : Meaning) (K : List ℕ) (s : St) (n : ℕ) (x : Owed) (old new : World) (got lost : List (ℕ × ℕ))
-    → Q x → Obeys n (reply R K s n x).is → tagged (reply R K s n x) ≡ got ++ lost → (lost ≡ [] → ⊥) → Gained old new got → IsState new (reply R K s n x).after
+    → Q x → Obeys n (reply R K s n x).is → tagged (reply R K s n x) ≡ got ++ lost → (lost ≡ [] → ⊥) → Gained old new got → Called K (reply R K s n x).is.calls old new → IsState new (reply R K s n x).after
     → Giving Q R K s n (x ∷ []) old new
-one_given g Q R K s n x old new got lost q l e ne a i =
+one_given g Q R K s n x old new got lost q l e ne a c i =
     let z : n ≡ n + 0 = omega arith in
     record {
       done = [];
@@ -282,20 +297,22 @@ one_given g Q R K s n x old new got lost q l e ne a i =
       some = ne;
       lawful = (l, tt);
       gained = a;
+      called = one_called R K s n x old new c;
       state = i;
     }
 
 -- the outcome of one answer was given as far as it was
 one_from : (g : Given) (Q : Owed → Type 0) (R : Meaning) (K : List ℕ) (s : St) (n : ℕ) (x : Owed) (old new : World)
-    → Q x → Obeys n (reply R K s n x).is → GaveAll g (tagged (reply R K s n x)) old new → IsState new (reply R K s n x).after → RanFrom g Q R K s n (x ∷ []) old new
-one_from Whole Q R K s n x old new q l a i = record {
+    → Q x → Obeys n (reply R K s n x).is → GaveAll g (tagged (reply R K s n x)) old new → Called K (reply R K s n x).is.calls old new → IsState new (reply R K s n x).after → RanFrom g Q R K s n (x ∷ []) old new
+one_from Whole Q R K s n x old new q l a c i = record {
   lawful = (l, tt);
   gained = subst (Gained old new) (sym (append-nil a.got) ∙ ap (λ l. a.got ++ l) (sym a.lost_is) ∙ sym a.split ∙ sym (append-nil (tagged (reply R K s n x)))) a.gained;
+  called = one_called R K s n x old new c;
   state = i;
 }
-one_from Fault Q R K s n x old new q l a i = one_given Fault Q R K s n x old new a.got a.lost q l a.split a.lost_is a.gained i
-one_from NotYet Q R K s n x old new q l a i = absurd a.lost_is
-one_from Memory Q R K s n x old new q l a i = inl (one_given Memory (λ _. ⊤) R K s n x old new a.got a.lost tt l a.split a.lost_is a.gained i)
+one_from Fault Q R K s n x old new q l a c i = one_given Fault Q R K s n x old new a.got a.lost q l a.split a.lost_is a.gained c i
+one_from NotYet Q R K s n x old new q l a c i = absurd a.lost_is
+one_from Memory Q R K s n x old new q l a c i = inl (one_given Memory (λ _. ⊤) R K s n x old new a.got a.lost tt l a.split a.lost_is a.gained c i)
 
 -- the log, the mail and the response of an outcome are the reply's
 texts_of : (g : Given) (conn : ℕ) (lines mails response : List ℕ) (r : site.Reply) (old new : World) → lines ≡ r.log → mails ≡ r.mail → response ≡ r.response
@@ -315,15 +332,19 @@ reply_obeys : (n : ℕ) (o : Outcome) (r : site.Reply) → IsReply o r → IsLaw
 reply_obeys n o r told law = subst (λ end. ObeysIn end n r) told.end (record { outcome = o; told = told; lawful = law })
 
 -- a request's answer was given as far as it was
-pub ran_gave : (g : Given) (Q : Owed → Type 0) (Called : List KeeperCall → Type 0) (fuel : ℕ) (K : List ℕ) (n conn place : ℕ) (r : Request) (o : Outcome) (old mid new : World)
+pub ran_gave : (g : Given) (Q : Owed → Type 0) (fuel : ℕ) (K failed : List ℕ) (n conn place : ℕ) (r : Request) (o : Outcome) (old mid new : World)
     → Q (record { conn = conn; asked = asks r; place = place }) → IsLawful n o → GaveAll g (three (log_of n o.journal) o.mail (record_text conn o.response)) old new
-    → Served fuel K old.store old.made n r Called (Ok o) mid.store mid.made → new.store ≡ mid.store → new.made ≡ mid.made
+    → Served fuel K old.store old.made n r (λ calls. Tells calls old.told mid.told old.made mid.made failed) (Ok o) mid.store mid.made
+    → new.store ≡ mid.store → new.told ≡ mid.told → new.made ≡ mid.made → Later new.made failed K
     → Ran g Q (meaning fuel) K n (record { conn = conn; asked = asks r; place = place } ∷ []) old new
 unfolding Ran
-ran_gave g Q Called fuel K n conn place r o old mid new q law a h st ma = where_then old.store _ _ (λ s t.
+ran_gave g Q fuel K failed n conn place r o old mid new q law a h st to ma later = where_then old.store _ _ (λ s t.
     one_from g Q (meaning fuel) K (record { store = s; made = old.made }) n (record { conn = conn; asked = asks r; place = place }) old new q
     (reply_obeys n o (site.request fuel K s old.made n r) t.says law)
     (texts_of g conn (log_of n o.journal) o.mail o.response (site.request fuel K s old.made n r) old new (logs fuel K s old.made n r o.journal t.says.journal) t.says.mail t.says.response a)
+    (called_by K failed (site.request fuel K s old.made n r).calls old new later
+    (subst (λ k. Tells (site.request fuel K s old.made n r).calls old.told new.told old.made k failed) (sym ma)
+    (subst (λ k. Tells (site.request fuel K s old.made n r).calls old.told k old.made mid.made failed) (sym to) t.called)))
     (ma ∙ t.made_is, st ∙ t.store_is)) h
 
 pub gained_same : (old new : World) → new.log ≡ old.log → new.mail ≡ old.mail → new.out ≡ old.out → Gained old new []
@@ -334,12 +355,12 @@ gained_same old new l m u = record {
 }
 
 -- a request's calls were made in part, for want of memory
-pub ran_amid : (Q : Owed → Type 0) (Called : List KeeperCall → Type 0) (fuel : ℕ) (K : List ℕ) (n conn place : ℕ) (r : Request) (e : AllocError) (old new : World)
+pub ran_amid : (Q : Owed → Type 0) (fuel : ℕ) (K failed : List ℕ) (n conn place : ℕ) (r : Request) (e : AllocError) (old new : World)
     → new.log ≡ old.log → new.mail ≡ old.mail → new.out ≡ old.out
-    → Served fuel K old.store old.made n r Called (Err e) new.store new.made
+    → Served fuel K old.store old.made n r (λ calls. Tells calls old.told new.told old.made new.made failed) (Err e) new.store new.made → Later new.made failed K
     → Ran Memory Q (meaning fuel) K n (record { conn = conn; asked = asks r; place = place } ∷ []) old new
 unfolding Ran
-ran_amid Q Called fuel K n conn place r e old new l m u h = where_then old.store _ _ (λ s t.
+ran_amid Q fuel K failed n conn place r e old new l m u h later = where_then old.store _ _ (λ s t.
     let z : n ≡ n + 0 = omega arith in
     inr (inr (record {
       done = [];
@@ -351,16 +372,17 @@ ran_amid Q Called fuel K n conn place r e old new l m u h = where_then old.store
       at = t.at;
       reached = subst (λ k. Reached t.at (reply (meaning fuel) K (record { store = s; made = old.made }) k (record { conn = conn; asked = asks r; place = place })).moments) z t.reached;
       made = t.made_is;
+      called = called_by K failed t.at.calls old new later t.called;
       state = t.store_is;
     }))) h
 
 -- a request met what isn't built
-pub ran_met : (Q : Owed → Type 0) (Called : List KeeperCall → Type 0) (fuel : ℕ) (K : List ℕ) (n conn place : ℕ) (r : Request) (o : Outcome) (old new : World)
+pub ran_met : (Q : Owed → Type 0) (fuel : ℕ) (K failed : List ℕ) (n conn place : ℕ) (r : Request) (o : Outcome) (old new : World)
     → new.log ≡ old.log → new.mail ≡ old.mail → new.out ≡ old.out → o.end ≡ Unbuilt
-    → Served fuel K old.store old.made n r Called (Ok o) new.store new.made
+    → Served fuel K old.store old.made n r (λ calls. Tells calls old.told new.told old.made new.made failed) (Ok o) new.store new.made → Later new.made failed K
     → Ran NotYet Q (meaning fuel) K n (record { conn = conn; asked = asks r; place = place } ∷ []) old new
 unfolding Ran
-ran_met Q Called fuel K n conn place r o old new l m u e h = where_then old.store _ _ (λ s t.
+ran_met Q fuel K failed n conn place r o old new l m u e h later = where_then old.store _ _ (λ s t.
     let z : n ≡ n + 0 = omega arith in
     record {
       done = [];
@@ -371,18 +393,28 @@ ran_met Q Called fuel K n conn place r o old new l m u e h = where_then old.stor
           (ap is_unbuilt (sym t.says.end ∙ ap (λ x. Some x) e));
       lawful = tt;
       gained = gained_same old new l m u;
+      called = one_called (meaning fuel) K (record { store = s; made = old.made }) n (record { conn = conn; asked = asks r; place = place }) old new
+          (called_by K failed (site.request fuel K s old.made n r).calls old new later t.called);
       state = (t.made_is, t.store_is);
     }) h
+
+-- no keeper was called
+called_same : (K : List ℕ) (old new : World) → new.told ≡ old.told → new.made ≡ old.made → Called K [] old new
+called_same K old new to ma = subst (λ k. Tells [] old.told k old.made new.made K) (sym to) (subst (λ k. Tells [] old.told old.told old.made k K) (sym ma) (called_none K old))
+
+-- a refusal lets no data leave
+refusal_obeys : (n : ℕ) (s : Store) (made status : ℕ) → Obeys n (site.refusal s made status)
+refusal_obeys n s made status = record { journal = refl; log = refl; mail = refl; calls = refl; headers = refl; body = refl; response = refl }
 
 -- a refusal was given as far as it was
 pub ran_refused : (g : Given) (Q : Owed → Type 0) (fuel : ℕ) (K : List ℕ) (n conn status place : ℕ) (response : List ℕ) (old new : World)
     → Q (record { conn = conn; asked = refuses status; place = place }) → GaveAll g (three [] [] (record_text conn response)) old new
-    → new.store ≡ old.store → new.made ≡ old.made → response ≡ refusal_text status
+    → new.store ≡ old.store → new.told ≡ old.told → new.made ≡ old.made → response ≡ refusal_text status
     → Ran g Q (meaning fuel) K n (record { conn = conn; asked = refuses status; place = place } ∷ []) old new
 unfolding Ran
-ran_refused g Q fuel K n conn status place response old new q a st ma e = told_with old.store _ (λ s i.
-    one_from g Q (meaning fuel) K (record { store = s; made = old.made }) n (record { conn = conn; asked = refuses status; place = place }) old new q tt
-    (texts_of g conn [] [] response (site.refusal s old.made status) old new refl refl e a) (ma, st ∙ i))
+ran_refused g Q fuel K n conn status place response old new q a st to ma e = told_with old.store _ (λ s i.
+    one_from g Q (meaning fuel) K (record { store = s; made = old.made }) n (record { conn = conn; asked = refuses status; place = place }) old new q (refusal_obeys n s old.made status)
+    (texts_of g conn [] [] response (site.refusal s old.made status) old new refl refl e a) (called_same K old new to ma) (ma, st ∙ i))
 
 -- of a whole run nothing is said of an answer whose bytes were being given
 pub ran_any : (Q Q' : Owed → Type 0) (R : Meaning) (K : List ℕ) (n : ℕ) (xs : List Owed) (old new : World) → Ran Whole Q R K n xs old new → Ran Whole Q' R K n xs old new

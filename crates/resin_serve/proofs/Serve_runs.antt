@@ -1,7 +1,7 @@
 -- The run of a whole trace.
 use Rattle.std.proofs.Common.{◌≡◌, ℕ, ◌+◌, ◌-◌, ◌<◌, ◌≤◌, min, Bool, true, false, nat_lt, cond, List, [], ◌∷◌, ◌++◌, length, take, drop, Option, Some, None, refl, sym, ap, ◌∙◌, arith, append_assoc, length-append, length-take, subst}
 use Rattle.std.specs.Prelude.{Ok, Err, ◌||◌}
-use Rattle.std.proofs.lemmas.List.{append-nil, take_all, take-append-le, take_at, take-append-drop, append_cancel_left, append_cancel_right}
+use Rattle.std.proofs.lemmas.List.{append-nil, take_all, take-append-le, take_at, take-append-drop, append_cancel_left}
 use Rattle.std.proofs.lemmas.Bool.{ltb-true, ltb-false}
 use Rattle.std.proofs.Math.Seq.{take-append-add}
 use Rattle.resin_base.specs.Contents.{Told}
@@ -29,7 +29,7 @@ use Rattle.resin_serve.specs.Meaning.{Meaning, Owed, fresh, order, life}
 use Rattle.resin_serve.specs.Ran.{World, Ran}
 use Rattle.resin_serve.specs.Lines.{Hold}
 use Rattle.resin_serve.specs.Top.{OnWhole, WentOn, Went, Beyond, Past, events, given_of, Stands}
-use Rattle.resin_serve.specs.Whole_run.{Took, Near, NearIn, RunOf, Runs, RunsSo, Finished}
+use Rattle.resin_serve.specs.Whole_run.{Took, Near, RunOf, Runs, RunsFrom, RunsSo, Finished}
 use Rattle.resin_serve.proofs.Runs.{ran_none, ran_then, ran_near, ran_stop, ran_any, ran_more}
 use Rattle.resin_serve.proofs.Line_runs.{on_whole}
 use Rattle.resin_serve.proofs.Streams.{still_nothing}
@@ -60,10 +60,17 @@ took_err (Some xs) None c taken buf filled e h k = absurd h
 took_err (Some xs) (Some ys) None taken buf filled e h k = absurd k
 took_err (Some xs) (Some ys) (Some zs) taken buf filled e h k = h ∙ ap (λ l. taken ++ l) (sym k.0)
 
--- what a told source held is what was taken and what is left
-told_as : (a b : Option (List ℕ)) (taken T U : List ℕ) → Took a b taken → a ≡ Some T → b ≡ Some U → T ≡ taken ++ U
-told_as a b taken T U h p q =
-    let k : Took (Some T) (Some U) taken = subst (λ o. Took (Some T) o taken) q (subst (λ o. Took o b taken) p h) in k
+-- a source that told its bytes tells those that are left, and those that were taken stood before them
+told_as : (a b : Option (List ℕ)) (taken T : List ℕ) → Took a b taken → a ≡ Some T → (U : List ℕ) × (b ≡ Some U) × (T ≡ taken ++ U)
+told_as a None taken T h p = let k : Took (Some T) None taken = subst (λ o. Took o None taken) p h in absurd k
+told_as a (Some U) taken T h p = (U, refl, subst (λ o. Took o (Some U) taken) p h)
+
+-- the run of what a source held, by the bytes that were taken of it
+runs_over : (status : Status) (R : Meaning) (K T : List ℕ) (left left' : Option (List ℕ)) (old new : World) (taken : List ℕ) → Took left left' taken → left ≡ Some T
+    → ((U : List ℕ) → T ≡ taken ++ U → Runs status R K T taken old new) → RunsFrom status R K T left' old new
+runs_over status R K T left left' old new taken h p f =
+    let u = told_as left left' taken T h p in
+    record { taken = taken; left = u.0; told = u.1; front = u.2; runs = f u.0 u.2 }
 
 -- where nothing was left, all was taken
 told_end : (a b c : Option (List ℕ)) (taken buf filled T U : List ℕ) (n : ℕ) → Took a b taken → Told b c (Takes buf filled (Ok n)) → n ≡ 0 → a ≡ Some T → c ≡ Some U → T ≡ taken
@@ -230,7 +237,7 @@ stopped_of g Q R K T es reader old new ne h r fs rest f =
     (ran_more g Q R K 1 (order [] es) (order (events es) go.0) old new ne r)
 
 -- the run of a trace whose records are these
-whole_of : (Q : Owed → Type 0) (R : Meaning) (K T : List ℕ) (es : List (TraceEvent × ℕ)) (rest : List ℕ) (old new : World) → Records T es rest → Ran Whole Q R K 1 (order [] es) old new → RunOf Whole (λ _. Unit {0}) R K T old new
+pub whole_of : (Q : Owed → Type 0) (R : Meaning) (K T : List ℕ) (es : List (TraceEvent × ℕ)) (rest : List ℕ) (old new : World) → Records T es rest → Ran Whole Q R K 1 (order [] es) old new → RunOf Whole (λ _. Unit {0}) R K T old new
 whole_of Q R K T es rest old new r h fs left f =
     subst (λ xs. Ran Whole (λ _. Unit {0}) R K 1 (order [] xs) old new) (once 0 (take limit T) es fs rest left r.splits f.splits r.longest f.longest).0
     (ran_any Q (λ _. Unit {0}) R K 1 _ old new h)
@@ -249,9 +256,8 @@ stays_none rest more n f = n (more, f)
 
 pub ends_bad : (R : Meaning) (left left' : Option (List ℕ)) (reader : Seen) (n made offset : ℕ) (failed : List ℕ) (lines : List (Option Waiting)) (old new : World) (taken : List ℕ)
     → Joined Whole R left left' reader n made failed lines old new taken × Stands (Bad offset) reader
-    → (K T U : List ℕ) → Later made failed K → left ≡ Some T → left' ≡ Some U → Runs (BadTrace offset) R K T U old new
-ends_bad R left left' reader n made offset failed lines old new taken (j, s) K T U k p q =
-    let e : T ≡ taken ++ U = told_as left left' taken T U j.told p q in
+    → (K T : List ℕ) → Later made failed K → left ≡ Some T → RunsFrom (BadTrace offset) R K T left' old new
+ends_bad R left left' reader n made offset failed lines old new taken (j, s) K T k p = runs_over (BadTrace offset) R K T left left' old new taken j.told p (λ U e.
     let next : Seen = fed reader U in
     let more : List ℕ = take (limit - (reader.place + length reader.rest)) U in
     let h : HasRead (taken ++ U) j.es next = feeds taken U j.es reader j.read in
@@ -260,19 +266,18 @@ ends_bad R left left' reader n made offset failed lines old new taken (j, s) K T
     let stuck : CanGo next.rest → ⊥ = subst (λ l. CanGo l → ⊥) (sym rest) (stays_stuck reader.rest more s.1) in
     let bad : IsBad (taken ++ U) offset = breaks (taken ++ U) j.es next next (BadFault offset) h (record { same = refl; none = none; stuck = stuck }, s.2) in
     subst (λ t. IsBad t offset × RunOf Whole (λ _. Unit {0}) R K t old new) (sym e)
-    (bad, whole_of (Near taken) R K (taken ++ U) j.es next.rest old new (records_of (taken ++ U) j.es next h none) (j.ran K k))
+    (bad, whole_of (Near taken) R K (taken ++ U) j.es next.rest old new (records_of (taken ++ U) j.es next h none) (j.ran K k)))
 
 pub ends_long : (R : Meaning) (left left' : Option (List ℕ)) (reader : Seen) (n made : ℕ) (failed : List ℕ) (lines : List (Option Waiting)) (old new : World) (taken : List ℕ)
     → Joined Whole R left left' reader n made failed lines old new taken × Stands TooLong reader
-    → (K T U : List ℕ) → Later made failed K → left ≡ Some T → left' ≡ Some U → Runs TraceTooLong R K T U old new
-ends_long R left left' reader n made failed lines old new taken (j, s) K T U k p q =
-    let e : T ≡ taken ++ U = told_as left left' taken T U j.told p q in
+    → (K T : List ℕ) → Later made failed K → left ≡ Some T → RunsFrom TraceTooLong R K T left' old new
+ends_long R left left' reader n made failed lines old new taken (j, s) K T k p = runs_over TraceTooLong R K T left left' old new taken j.told p (λ U e.
     let long : limit < length taken = is_over (length taken) (sym j.read.over ∙ s.2) in
     let all : length (taken ++ U) ≡ length taken + length U = length-append taken U in
     let same : take limit (taken ++ U) ≡ take limit taken = take-append-le limit taken U (omega arith) in
     let r : Records (taken ++ U) j.es reader.rest = record { splits = subst (λ t. Splits 0 t j.es reader.rest) (sym same) j.read.splits; longest = s.0 } in
     subst (λ t. IsLong t × RunOf Whole (λ _. Unit {0}) R K t old new) (sym e)
-    (record { events = j.es; rest = reader.rest; records = r; long = omega arith; goes = s.1 }, whole_of (Near taken) R K (taken ++ U) j.es reader.rest old new r (j.ran K k))
+    (record { events = j.es; rest = reader.rest; records = r; long = omega arith; goes = s.1 }, whole_of (Near taken) R K (taken ++ U) j.es reader.rest old new r (j.ran K k)))
 
 -- the reader after all that is left was fed too
 read_on : (taken T U : List ℕ) (es : List (TraceEvent × ℕ)) (reader : Seen) → T ≡ taken ++ U → HasRead taken es reader → HasRead T es (fed reader U)
@@ -280,37 +285,30 @@ read_on taken T U es reader e h = subst (λ t. HasRead t es (fed reader U)) (sym
 
 pub ends_fault : (R : Meaning) (left left' : Option (List ℕ)) (reader : Seen) (n made : ℕ) (failed : List ℕ) (lines : List (Option Waiting)) (old new : World) (taken : List ℕ)
     → Joined Fault R left left' reader n made failed lines old new taken
-    → (K T U : List ℕ) → Later made failed K → left ≡ Some T → left' ≡ Some U → Runs WriteFault R K T U old new
-ends_fault R left left' reader n made failed lines old new taken j K T U k p q =
-    let e : T ≡ taken ++ U = told_as left left' taken T U j.told p q in
-    let len : length T ≡ length taken + length U = ap length e ∙ length-append taken U in
-    stopped_of Fault (NearIn T U) R K T j.es (fed reader U) old new (λ f. cc) (read_on taken T U j.es reader e j.read)
-    (ran_near Fault (Near taken) (NearIn T U) R K 1 _ old new (λ a c. let c' : length taken ≤ a.place + 65535 = c in omega arith) (j.ran K k))
+    → (K T : List ℕ) → Later made failed K → left ≡ Some T → RunsFrom WriteFault R K T left' old new
+ends_fault R left left' reader n made failed lines old new taken j K T k p = runs_over WriteFault R K T left left' old new taken j.told p (λ U e.
+    stopped_of Fault (Near taken) R K T j.es (fed reader U) old new (λ f. cc) (read_on taken T U j.es reader e j.read) (j.ran K k))
 
 pub ends_memory : (R : Meaning) (left left' : Option (List ℕ)) (reader : Seen) (n made : ℕ) (failed : List ℕ) (lines : List (Option Waiting)) (old new : World) (taken : List ℕ)
     → Joined Memory R left left' reader n made failed lines old new taken
-    → (K T U : List ℕ) → Later made failed K → left ≡ Some T → left' ≡ Some U → Runs StatusMemory R K T U old new
-ends_memory R left left' reader n made failed lines old new taken j K T U k p q =
-    let e : T ≡ taken ++ U = told_as left left' taken T U j.told p q in
+    → (K T : List ℕ) → Later made failed K → left ≡ Some T → RunsFrom StatusMemory R K T left' old new
+ends_memory R left left' reader n made failed lines old new taken j K T k p = runs_over StatusMemory R K T left left' old new taken j.told p (λ U e.
     stopped_of Memory (λ _. Unit {0}) R K T j.es (fed reader U) old new (λ f. cc) (read_on taken T U j.es reader e j.read)
-    (ran_near Memory (Near taken) (λ _. Unit {0}) R K 1 _ old new (λ a c. tt) (j.ran K k))
+    (ran_near Memory (Near taken) (λ _. Unit {0}) R K 1 _ old new (λ a c. tt) (j.ran K k)))
 
 pub ends_unbuilt : (R : Meaning) (left left' : Option (List ℕ)) (reader : Seen) (n made : ℕ) (failed : List ℕ) (lines : List (Option Waiting)) (old new : World) (taken : List ℕ)
     → Joined NotYet R left left' reader n made failed lines old new taken
-    → (K T U : List ℕ) → Later made failed K → left ≡ Some T → left' ≡ Some U → Runs StatusNotYet R K T U old new
-ends_unbuilt R left left' reader n made failed lines old new taken j K T U k p q =
-    let e : T ≡ taken ++ U = told_as left left' taken T U j.told p q in
+    → (K T : List ℕ) → Later made failed K → left ≡ Some T → RunsFrom StatusNotYet R K T left' old new
+ends_unbuilt R left left' reader n made failed lines old new taken j K T k p = runs_over StatusNotYet R K T left left' old new taken j.told p (λ U e.
     stopped_of NotYet (λ _. Unit {0}) R K T j.es (fed reader U) old new (λ f. cc) (read_on taken T U j.es reader e j.read)
-    (ran_near NotYet (Near taken) (λ _. Unit {0}) R K 1 _ old new (λ a c. tt) (j.ran K k))
+    (ran_near NotYet (Near taken) (λ _. Unit {0}) R K 1 _ old new (λ a c. tt) (j.ran K k)))
 
 pub ends_read : (R : Meaning) (left mid left' : Option (List ℕ)) (reader : Seen) (n made : ℕ) (failed : List ℕ) (lines : List (Option Waiting)) (old new : World) (taken buf filled : List ℕ) (f : Failed)
     → Joined Whole R left mid reader n made failed lines old new taken × Stands Wait reader → Told mid left' (Takes buf filled (Err f))
-    → (K T U : List ℕ) → Later made failed K → left ≡ Some T → left' ≡ Some U → Runs ReadFault R K T U old new
-ends_read R left mid left' reader n made failed lines old new taken buf filled f (j, s) t K T U k p q others o =
-    let e : T ≡ taken ++ U = told_as left left' taken T U (took_err left mid left' taken buf filled f j.told t) p q in
-    let same : taken ≡ others = append_cancel_right taken others U (sym e ∙ o) in
-    subst (λ l. RunOf Whole (λ _. Unit {0}) R K l old new) same
-    (whole_of (Near taken) R K taken j.es reader.rest old new (records_of taken j.es reader j.read s.0) (j.ran K k))
+    → (K T : List ℕ) → Later made failed K → left ≡ Some T → RunsFrom ReadFault R K T left' old new
+ends_read R left mid left' reader n made failed lines old new taken buf filled f (j, s) t K T k p =
+    runs_over ReadFault R K T left left' old new taken (took_err left mid left' taken buf filled f j.told t) p
+    (λ U e. whole_of (Near taken) R K taken j.es reader.rest old new (records_of taken j.es reader j.read s.0) (j.ran K k))
 
 ends_as : (status : Status) (R : Meaning) (reader : Seen) (es : List (TraceEvent × ℕ)) (old new : World) (K T U : List ℕ) → HasRead T es reader → Finished reader status
     → RunOf Whole (λ _. Unit {0}) R K T old new → Runs status R K T U old new
@@ -325,22 +323,29 @@ ends_as StatusNotYet R reader es old new K T U h f r = absurd f
 
 pub ends_trace : (status : Status) (R : Meaning) (left mid left' : Option (List ℕ)) (reader : Seen) (n made : ℕ) (failed : List ℕ) (lines : List (Option Waiting)) (old new : World) (taken buf filled : List ℕ) (count : ℕ)
     → Joined Whole R left mid reader n made failed lines old new taken × Stands Wait reader → Told mid left' (Takes buf filled (Ok count)) → count ≡ 0 → Finished reader status
-    → (K T U : List ℕ) → Later made failed K → left ≡ Some T → left' ≡ Some U → Runs status R K T U old new
-ends_trace status R left mid left' reader n made failed lines old new taken buf filled count (j, s) t z f K T U k p q =
-    let e : taken ≡ T = sym (told_end left mid left' taken buf filled T U count j.told t z p q) in
-    ends_as status R reader j.es old new K T U (subst (λ l. HasRead l j.es reader) e j.read) f
-    (subst (λ l. RunOf Whole (λ _. Unit {0}) R K l old new) e (whole_of (Near taken) R K taken j.es reader.rest old new (records_of taken j.es reader j.read s.0) (j.ran K k)))
+    → (K T : List ℕ) → Later made failed K → left ≡ Some T → RunsFrom status R K T left' old new
+ends_trace status R left mid left' reader n made failed lines old new taken buf filled count (j, s) t z f K T k p =
+    let all : List ℕ = taken ++ take count filled in
+    let u = told_as left left' all T (took_then left mid left' taken buf filled count j.told t) p in
+    let e : taken ≡ T = sym (told_end left mid left' taken buf filled T u.0 count j.told t z p u.1) in
+    record {
+      taken = all;
+      left = u.0;
+      told = u.1;
+      front = u.2;
+      runs = ends_as status R reader j.es old new K T all (subst (λ l. HasRead l j.es reader) e j.read) f
+          (subst (λ l. RunOf Whole (λ _. Unit {0}) R K l old new) e (whole_of (Near taken) R K taken j.es reader.rest old new (records_of taken j.es reader j.read s.0) (j.ran K k)));
+    }
 
 -- the piece found no room
 pub ends_full : (R : Meaning) (left mid left' : Option (List ℕ)) (reader : Seen) (n made : ℕ) (failed : List ℕ) (lines : List (Option Waiting)) (old new : World) (taken buf filled : List ℕ) (count : ℕ)
     → Joined Whole R left mid reader n made failed lines old new taken × Stands Wait reader → Told mid left' (Takes buf filled (Ok count))
-    → (K T U : List ℕ) → Later made failed K → left ≡ Some T → left' ≡ Some U → Runs StatusMemory R K T U old new
-ends_full R left mid left' reader n made failed lines old new taken buf filled count (j, s) t K T U k p q =
-    let e : T ≡ (taken ++ take count filled) ++ U = told_as left left' (taken ++ take count filled) T U (took_then left mid left' taken buf filled count j.told t) p q in
+    → (K T : List ℕ) → Later made failed K → left ≡ Some T → RunsFrom StatusMemory R K T left' old new
+ends_full R left mid left' reader n made failed lines old new taken buf filled count (j, s) t K T k p = runs_over StatusMemory R K T left left' old new (taken ++ take count filled) (took_then left mid left' taken buf filled count j.told t) p (λ U e.
     let e' : T ≡ taken ++ (take count filled ++ U) = e ∙ append_assoc taken (take count filled) U in
     stopped_of Memory (λ _. Unit {0}) R K T j.es (fed reader (take count filled ++ U)) old new (λ f. cc) (read_on taken T (take count filled ++ U) j.es reader e' j.read)
     (subst (λ xs. Ran Memory (λ _. Unit {0}) R K 1 xs old new) (append-nil (order [] j.es))
-    (ran_then Memory (λ _. Unit {0}) (Near taken) R K 1 n (order [] j.es) [] old new new j.whole.1 (j.ran K k) (ran_stop _ R K n [] new)))
+    (ran_then Memory (λ _. Unit {0}) (Near taken) R K 1 n (order [] j.es) [] old new new j.whole.1 (j.ran K k) (ran_stop _ R K n [] new))))
 
 -- ---- what feeding does to the measure
 

@@ -1,6 +1,6 @@
 -- The meaning of a run (this project): what each stream is owed, in the order in which records complete it, and one request after another.
 use Rattle.std.specs.Prelude.{ℕ, ◌+◌, ◌==◌, Bool, List, [], ◌∷◌, ◌++◌, length, drop, map, if◌then◌else◌, ⊤}
-use Rattle.resin_program.specs.Programs.{Moment}
+use Rattle.resin_program.specs.Programs.{KeeperCall, Moment}
 use Rattle.resin_site.specs.Keeping.{St}
 use Rattle.resin_trace.specs.declared.event.TraceEvent.{TraceEvent}
 use Rattle.resin_trace.specs.declared.event.TraceEvent.TheVariants.{Piece, End}
@@ -71,6 +71,11 @@ bytes_of R K s number (a ∷ xs) = tagged (reply R K s number a) ++ bytes_of R K
 abbrev pub after_of : Meaning → List ℕ → St → ℕ → List Owed → St
 after_of R K s number [] = s
 after_of R K s number (a ∷ xs) = after_of R K (reply R K s number a).after (number + 1) xs
+
+-- the keeper calls that they make, in order
+abbrev pub calls_of : Meaning → List ℕ → St → ℕ → List Owed → List KeeperCall
+calls_of R K s number [] = []
+calls_of R K s number (a ∷ xs) = (reply R K s number a).is.calls ++ calls_of R K (reply R K s number a).after (number + 1) xs
 
 -- each of these answers of the run obeys the access law at its number
 abbrev pub AllObey : Meaning → List ℕ → St → ℕ → List Owed → Type 0

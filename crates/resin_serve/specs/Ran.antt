@@ -2,10 +2,10 @@
 use Rattle.std.specs.Prelude.{◌≡◌, ◌≢◌, ℕ, ◌+◌, ◌==◌, true, List, [], ◌∷◌, ◌++◌, length, if◌then◌else◌, Option, Some, None, ⊤, ◌⊎◌}
 use Rattle.resin_serve.specs.declared.give.Given.{Given}
 use Rattle.resin_serve.specs.declared.give.Given.TheVariants.{Whole, Fault, Memory, NotYet}
-use Rattle.resin_program.specs.Programs.{Moment}
+use Rattle.resin_program.specs.Programs.{KeeperCall, Moment}
 use Rattle.resin_program.specs.Runs.{Reached}
-use Rattle.resin_site.specs.Keeping.{Store, St, WhereTold}
-use Rattle.resin_serve.specs.Meaning.{Meaning, Owed, tagged, reply, bytes_of, after_of, AllObey}
+use Rattle.resin_site.specs.Keeping.{Store, St, WhereTold, Answers, Tells}
+use Rattle.resin_serve.specs.Meaning.{Meaning, Owed, tagged, reply, bytes_of, after_of, calls_of, AllObey}
 
 -- told contents grew by these bytes
 abbrev pub Grew : Option (List ℕ) → Option (List ℕ) → List ℕ → Type 0
@@ -18,16 +18,17 @@ abbrev pub part : ℕ → List (ℕ × ℕ) → List ℕ
 part k [] = []
 part k (x ∷ xs) = if x.0 == k then x.1 ∷ part k xs else part k xs
 
--- what the outside holds, where it is told, and how many keeper calls were made
+-- what the outside holds, where it is told; which of the keepers' calls failed, where each tells it; and how many keeper calls were made
 pub record World : Type 0 where
   pub log : Option (List ℕ)
   pub mail : Option (List ℕ)
   pub out : Option (List ℕ)
   pub store : Option Store
+  pub told : Answers
   pub made : ℕ
 
-abbrev pub world : Option (List ℕ) → Option (List ℕ) → Option (List ℕ) → Option Store → ℕ → World
-world log mail out store made = record { log = log; mail = mail; out = out; store = store; made = made }
+abbrev pub world : Option (List ℕ) → Option (List ℕ) → Option (List ℕ) → Option Store → Answers → ℕ → World
+world log mail out store told made = record { log = log; mail = mail; out = out; store = store; told = told; made = made }
 
 -- the three sinks gained these bytes
 pub record Gained (old new : World) (got : List (ℕ × ℕ)) : Type 0 where
@@ -39,7 +40,13 @@ pub record Gained (old new : World) (got : List (ℕ × ℕ)) : Type 0 where
 abbrev pub IsState : World → St → Type 0
 IsState w s = (w.made ≡ s.made) × (w.store ≡ Some s.store)
 
--- How a run ends follows, in five records. In each of them `lawful` says that every answer that gave a byte obeys the access law.
+-- These calls of the meaning were made: they are counted, and where a keeper tells its answers, those of the calls on it came behind the ones so
+-- far, in order, and are failures exactly for the calls whose numbers K lists.
+abbrev pub Called : List ℕ → List KeeperCall → World → World → Type 0
+Called K calls old new = Tells calls old.told new.told old.made new.made K
+
+-- How a run ends follows, in five records. In each of them `lawful` says that every answer that gave a byte obeys the access law, and `called` that
+-- the keeper calls that were made are those that the meaning makes until then.
 
 -- a run from a state over answers that stopped while an answer's bytes were given: a front of them was, and some weren't
 pub record Giving (Q : Owed → Type 0) (R : Meaning) (K : List ℕ) (s : St) (number : ℕ) (xs : List Owed) (old new : World) : Type 0 where
@@ -54,6 +61,7 @@ pub record Giving (Q : Owed → Type 0) (R : Meaning) (K : List ℕ) (s : St) (n
   pub some : lost ≢ []
   pub lawful : AllObey R K s number (done ++ now ∷ [])
   pub gained : Gained old new (bytes_of R K s number done ++ got)
+  pub called : Called K (calls_of R K s number (done ++ now ∷ [])) old new
   pub state : IsState new (after_of R K s number (done ++ now ∷ []))
 
 -- .. or before an answer
@@ -63,6 +71,7 @@ pub record Before (R : Meaning) (K : List ℕ) (s : St) (number : ℕ) (xs : Lis
   pub is : xs ≡ done ++ later
   pub lawful : AllObey R K s number done
   pub gained : Gained old new (bytes_of R K s number done)
+  pub called : Called K (calls_of R K s number done) old new
   pub state : IsState new (after_of R K s number done)
 
 -- .. or amid an answer: at one of its moments, with what the keepers held then, and after the keeper calls that it had made until then
@@ -76,6 +85,7 @@ pub record Amid (R : Meaning) (K : List ℕ) (s : St) (number : ℕ) (xs : List 
   pub gained : Gained old new (bytes_of R K s number done)
   pub reached : Reached at (reply R K (after_of R K s number done) (number + length done) now).moments
   pub made : new.made ≡ (after_of R K s number done).made + length at.calls
+  pub called : Called K (calls_of R K s number done ++ at.calls) old new
   pub state : new.store ≡ Some at.store
 
 -- the run met what isn't built, after everything before it was served
@@ -87,12 +97,14 @@ pub record Meeting (R : Meaning) (K : List ℕ) (s : St) (number : ℕ) (xs : Li
   pub not_yet : (reply R K (after_of R K s number done) (number + length done) now).not_yet ≡ true
   pub lawful : AllObey R K s number done
   pub gained : Gained old new (bytes_of R K s number done)
+  pub called : Called K (calls_of R K s number (done ++ now ∷ [])) old new
   pub state : IsState new (after_of R K s number (done ++ now ∷ []))
 
 -- the whole run
 pub record Through (R : Meaning) (K : List ℕ) (s : St) (number : ℕ) (xs : List Owed) (old new : World) : Type 0 where
   pub lawful : AllObey R K s number xs
   pub gained : Gained old new (bytes_of R K s number xs)
+  pub called : Called K (calls_of R K s number xs) old new
   pub state : IsState new (after_of R K s number xs)
 
 abbrev pub RanFrom : Given → (Owed → Type 0) → Meaning → List ℕ → St → ℕ → List Owed → World → World → Type 0

@@ -34,21 +34,25 @@ Near taken a = length taken ≤ a.place + 65535
 abbrev pub RunOf : Given → (Owed → Type 0) → Meaning → List ℕ → List ℕ → World → World → Type 0
 RunOf g Q R K trace old new = (records : List (TraceEvent × ℕ)) (rest : List ℕ) → Records trace records rest → Ran g Q R K 1 (order [] records) old new
 
--- the answer's record ends at most a buffer's bytes, less one, before what was taken of a trace, of which so much is left
-abbrev pub NearIn : List ℕ → List ℕ → Owed → Type 0
-NearIn trace left a = length trace ≤ length left + a.place + 65535
-
--- how a run over a trace ends, of which so much was left unread: after a good, a bad and a too long trace all its records were served; after
+-- how a run over a trace ends, of which these bytes were taken: after a good, a bad and a too long trace all its records were served; after
 -- a read fault those that stand whole in what was taken; a write fault, want of memory and what isn't built stop it
 abbrev pub Runs : Status → Meaning → List ℕ → List ℕ → List ℕ → World → World → Type 0
-Runs StatusOk R K trace left old new = IsGood trace × RunOf Whole (λ _. ⊤) R K trace old new
-Runs Usage R K trace left old new = ⊥
-Runs (BadTrace offset) R K trace left old new = IsBad trace offset × RunOf Whole (λ _. ⊤) R K trace old new
-Runs ReadFault R K trace left old new = (taken : List ℕ) → trace ≡ taken ++ left → RunOf Whole (λ _. ⊤) R K taken old new
-Runs WriteFault R K trace left old new = RunOf GivenFault (NearIn trace left) R K trace old new
-Runs TraceTooLong R K trace left old new = IsLong trace × RunOf Whole (λ _. ⊤) R K trace old new
-Runs StatusMemory R K trace left old new = RunOf GivenMemory (λ _. ⊤) R K trace old new
-Runs NotYet R K trace left old new = RunOf GivenNotYet (λ _. ⊤) R K trace old new
+Runs StatusOk R K trace taken old new = IsGood trace × RunOf Whole (λ _. ⊤) R K trace old new
+Runs Usage R K trace taken old new = ⊥
+Runs (BadTrace offset) R K trace taken old new = IsBad trace offset × RunOf Whole (λ _. ⊤) R K trace old new
+Runs ReadFault R K trace taken old new = RunOf Whole (λ _. ⊤) R K taken old new
+Runs WriteFault R K trace taken old new = RunOf GivenFault (Near taken) R K trace old new
+Runs TraceTooLong R K trace taken old new = IsLong trace × RunOf Whole (λ _. ⊤) R K trace old new
+Runs StatusMemory R K trace taken old new = RunOf GivenMemory (λ _. ⊤) R K trace old new
+Runs NotYet R K trace taken old new = RunOf GivenNotYet (λ _. ⊤) R K trace old new
+
+-- The run of a trace that a source held, which now tells what is left of it: bytes were taken from the front of the trace, and the run came so far.
+pub record RunsFrom (status : Status) (R : Meaning) (K trace : List ℕ) (now : Option (List ℕ)) (old new : World) : Type 0 where
+  pub taken : List ℕ
+  pub left : List ℕ
+  pub told : now ≡ Some left
+  pub front : trace ≡ taken ++ left
+  pub runs : Runs status R K trace taken old new
 
 abbrev pub given_of_status : Status → Given
 given_of_status StatusOk = Whole

@@ -1,12 +1,12 @@
 //! Laws of runs, each on a function that does nothing.
-ghost use Rattle.resin_serve.specs.Cutting.{AnyCutting, AskedTells, LivesTell, SameLives};
+ghost use Rattle.resin_serve.specs.Cutting.{AnyCutting, AskedTells, LivesTell, OneConnection, SameLives, SameRuns};
 
 /// No cutting of a connection's stream into pieces changes what it asks.
 pub fn any_cutting()
     ensures { AnyCutting }
 {}
 
-/// Runs that are asked the same on the same connections, in the same order, give the same bytes and leave the same state.
+/// Runs that are asked the same on the same connections, in the same order, give the same bytes, make the same keeper calls and leave the same state.
 pub fn asked_tells()
     ensures { AskedTells }
 {}
@@ -19,4 +19,15 @@ pub fn lives_tell()
 /// Two traces ask the same on a connection whose lives have the same streams in both, however the traces are cut and mixed.
 pub fn same_lives()
     ensures { SameLives }
+{}
+
+/// Two traces that ask the same on the same connections, in the same order, have the same runs: over the same site, with the same fuel and failing
+/// calls, they give the same output, mail and log and leave the same files and tables.
+pub fn same_runs()
+    ensures { SameRuns }
+{}
+
+/// Two traces on one connection whose lives have the same streams ask the same in the same order, and have the same runs.
+pub fn one_connection()
+    ensures { OneConnection }
 {}

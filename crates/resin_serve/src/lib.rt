@@ -10,6 +10,6 @@ mod top;
 mod waiting;
 mod words;
 
-pub use laws::{any_cutting, asked_tells, lives_tell, same_lives};
+pub use laws::{any_cutting, asked_tells, lives_tell, one_connection, same_lives, same_runs};
 pub use status::{Ended, Status};
 pub use top::serve;

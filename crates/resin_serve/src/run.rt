@@ -6,7 +6,7 @@ ghost use Rattle.resin_trace.specs.Lines.{at};
 ghost use Rattle.resin_serve.specs.Ran.{Ran, world};
 ghost use Rattle.resin_serve.specs.Gives.{CausedIn, GaveAll, counts, sinks, three};
 ghost use Rattle.resin_serve.specs.Kept.{Kept, keepers};
-ghost use Rattle.resin_site.specs.Keeping.{Store, Later, store_of};
+ghost use Rattle.resin_site.specs.Keeping.{Answers, Store, Later, answers, store_of};
 ghost use Rattle.resin_base.specs.Numbering.{AreNumbered};
 ghost use Rattle.resin_journal.specs.Lines.{log_of};
 ghost use Rattle.resin_serve.specs.Records.{record_text};
@@ -45,9 +45,9 @@ pub(crate) fn give_answer<L: Sink, M: Sink, O: Sink>(
     response: &[u8],
 ) -> Given
     ensures same { (run.new.site ≡ run.old.site) × (run.new.connections ≡ run.old.connections) × (run.new.calls ≡ run.old.calls) }
-    ensures gave { (store : Option Store) (made : ℕ) (store' : Option Store) (made' : ℕ)
-        → GaveAll result (three lines.now mails.now (record_text conn response.now)) (world (L.written log.old) (M.written mail.old) (O.written out.old) store made)
-        (world (L.written log.new) (M.written mail.new) (O.written out.new) store' made') }
+    ensures gave { (store store' : Option Store) (told told' : Answers) (made made' : ℕ)
+        → GaveAll result (three lines.now mails.now (record_text conn response.now)) (world (L.written log.old) (M.written mail.old) (O.written out.old) store told made)
+        (world (L.written log.new) (M.written mail.new) (O.written out.new) store' told' made') }
     ensures number { OnWhole result (run.new.number ≡ run.old.number + 1) }
     ensures cause { CausedIn result
         (sinks (counts (L.faults log.old) (L.stalls log.old)) (counts (M.faults mail.old) (M.stalls mail.old)) (counts (O.faults out.old) (O.stalls out.old)))
@@ -73,9 +73,9 @@ fn give_outcome<L: Sink, M: Sink, O: Sink>(
     outcome: &Outcome,
 ) -> Given
     ensures same { (run.new.site ≡ run.old.site) × (run.new.connections ≡ run.old.connections) × (run.new.calls ≡ run.old.calls) }
-    ensures gave { (store : Option Store) (made : ℕ) (store' : Option Store) (made' : ℕ)
-        → GaveAll result (three (log_of run.old.number outcome.now.journal) outcome.now.mail (record_text conn outcome.now.response)) (world (L.written log.old) (M.written mail.old) (O.written out.old) store made)
-        (world (L.written log.new) (M.written mail.new) (O.written out.new) store' made') }
+    ensures gave { (store store' : Option Store) (told told' : Answers) (made made' : ℕ)
+        → GaveAll result (three (log_of run.old.number outcome.now.journal) outcome.now.mail (record_text conn outcome.now.response)) (world (L.written log.old) (M.written mail.old) (O.written out.old) store told made)
+        (world (L.written log.new) (M.written mail.new) (O.written out.new) store' told' made') }
     ensures number { OnWhole result (run.new.number ≡ run.old.number + 1) }
     ensures cause { CausedIn result
         (sinks (counts (L.faults log.old) (L.stalls log.old)) (counts (M.faults mail.old) (M.stalls mail.old)) (counts (O.faults out.old) (O.stalls out.old)))
@@ -114,8 +114,8 @@ pub(crate) fn serve_request<F: Files, T: Tables, L: Sink, M: Sink, O: Sink>(
         (keepers run.new.calls.made run.new.calls.failed (F.answers files.new) (F.faults files.new) (T.answers tables.new) (T.faults tables.new)) }
     ensures ran { (place : ℕ) (K : List ℕ) → Later run.new.calls.made run.new.calls.failed K
         → Ran result (λ a. a.place ≡ place) (meaning run.old.site) K run.old.number (record { conn = conn; asked = asks request.now; place = place } ∷ [])
-        (world (L.written log.old) (M.written mail.old) (O.written out.old) (store_of (F.stored files.old) (T.stored tables.old)) run.old.calls.made)
-        (world (L.written log.new) (M.written mail.new) (O.written out.new) (store_of (F.stored files.new) (T.stored tables.new)) run.new.calls.made) }
+        (world (L.written log.old) (M.written mail.old) (O.written out.old) (store_of (F.stored files.old) (T.stored tables.old)) (answers (F.answers files.old) (T.answers tables.old)) run.old.calls.made)
+        (world (L.written log.new) (M.written mail.new) (O.written out.new) (store_of (F.stored files.new) (T.stored tables.new)) (answers (F.answers files.new) (T.answers tables.new)) run.new.calls.made) }
     ensures number { OnWhole result (run.new.number ≡ run.old.number + 1) }
     ensures cause { CausedIn result
         (sinks (counts (L.faults log.old) (L.stalls log.old)) (counts (M.faults mail.old) (M.stalls mail.old)) (counts (O.faults out.old) (O.stalls out.old)))
@@ -151,10 +151,10 @@ pub(crate) fn serve_refusal<L: Sink, M: Sink, O: Sink>(
     status: u16,
 ) -> Given
     ensures same { (run.new.site ≡ run.old.site) × (run.new.connections ≡ run.old.connections) × (run.new.calls ≡ run.old.calls) }
-    ensures ran { (place fuel : ℕ) (K : List ℕ) (store : Option Store)
+    ensures ran { (place fuel : ℕ) (K : List ℕ) (store : Option Store) (told : Answers)
         → Ran result (λ a. a.place ≡ place) (meaning fuel) K run.old.number (record { conn = conn; asked = refuses status; place = place } ∷ [])
-        (world (L.written log.old) (M.written mail.old) (O.written out.old) store run.old.calls.made)
-        (world (L.written log.new) (M.written mail.new) (O.written out.new) store run.new.calls.made) }
+        (world (L.written log.old) (M.written mail.old) (O.written out.old) store told run.old.calls.made)
+        (world (L.written log.new) (M.written mail.new) (O.written out.new) store told run.new.calls.made) }
     ensures number { OnWhole result (run.new.number ≡ run.old.number + 1) }
     ensures cause { CausedIn result
         (sinks (counts (L.faults log.old) (L.stalls log.old)) (counts (M.faults mail.old) (M.stalls mail.old)) (counts (O.faults out.old) (O.stalls out.old)))
@@ -185,8 +185,8 @@ pub(crate) fn serve_connection<F: Files, T: Tables, L: Sink, M: Sink, O: Sink>(
         (keepers run.new.calls.made run.new.calls.failed (F.answers files.new) (F.faults files.new) (T.answers tables.new) (T.faults tables.new)) }
     ensures ran { (place : ℕ) (K : List ℕ) → Later run.new.calls.made run.new.calls.failed K
         → Ran result (λ a. a.place ≡ place) (meaning run.old.site) K run.old.number (asked conn place (still (at run.old.connections conn) []))
-        (world (L.written log.old) (M.written mail.old) (O.written out.old) (store_of (F.stored files.old) (T.stored tables.old)) run.old.calls.made)
-        (world (L.written log.new) (M.written mail.new) (O.written out.new) (store_of (F.stored files.new) (T.stored tables.new)) run.new.calls.made) }
+        (world (L.written log.old) (M.written mail.old) (O.written out.old) (store_of (F.stored files.old) (T.stored tables.old)) (answers (F.answers files.old) (T.answers tables.old)) run.old.calls.made)
+        (world (L.written log.new) (M.written mail.new) (O.written out.new) (store_of (F.stored files.new) (T.stored tables.new)) (answers (F.answers files.new) (T.answers tables.new)) run.new.calls.made) }
     ensures cause { CausedIn result
         (sinks (counts (L.faults log.old) (L.stalls log.old)) (counts (M.faults mail.old) (M.stalls mail.old)) (counts (O.faults out.old) (O.stalls out.old)))
         (sinks (counts (L.faults log.new) (L.stalls log.new)) (counts (M.faults mail.new) (M.stalls mail.new)) (counts (O.faults out.new) (O.stalls out.new))) }
@@ -231,8 +231,8 @@ pub(crate) fn serve_event<F: Files, T: Tables, L: Sink, M: Sink, O: Sink>(
         (sinks (counts (L.faults log.new) (L.stalls log.new)) (counts (M.faults mail.new) (M.stalls mail.new)) (counts (O.faults out.new) (O.stalls out.new))) }
     ensures ran { (place : ℕ) (seen : List TraceEvent) → Hold run.old.connections seen
         → RanEvent result (meaning run.old.site) seen (event.now, place) run.old.number run.new.number run.new.calls.made run.new.calls.failed run.new.connections
-        (world (L.written log.old) (M.written mail.old) (O.written out.old) (store_of (F.stored files.old) (T.stored tables.old)) run.old.calls.made)
-        (world (L.written log.new) (M.written mail.new) (O.written out.new) (store_of (F.stored files.new) (T.stored tables.new)) run.new.calls.made) }
+        (world (L.written log.old) (M.written mail.old) (O.written out.old) (store_of (F.stored files.old) (T.stored tables.old)) (answers (F.answers files.old) (T.answers tables.old)) run.old.calls.made)
+        (world (L.written log.new) (M.written mail.new) (O.written out.new) (store_of (F.stored files.new) (T.stored tables.new)) (answers (F.answers files.new) (T.answers tables.new)) run.new.calls.made) }
 {
     match event {
         TraceEvent::Piece { conn, bytes } => {
@@ -285,8 +285,8 @@ pub(crate) fn serve_ready<F: Files, T: Tables, L: Sink, M: Sink, O: Sink>(
         (sinks (counts (L.faults log.new) (L.stalls log.new)) (counts (M.faults mail.new) (M.stalls mail.new)) (counts (O.faults out.new) (O.stalls out.new))) }
     ensures went { (seen : List TraceEvent) (b : ℕ) → Hold run.old.connections seen → Beyond b reader.old
         → Went result (meaning run.old.site) b seen reader.old reader.new run.old.number run.new.number run.new.calls.made run.new.calls.failed run.new.connections
-        (world (L.written log.old) (M.written mail.old) (O.written out.old) (store_of (F.stored files.old) (T.stored tables.old)) run.old.calls.made)
-        (world (L.written log.new) (M.written mail.new) (O.written out.new) (store_of (F.stored files.new) (T.stored tables.new)) run.new.calls.made) }
+        (world (L.written log.old) (M.written mail.old) (O.written out.old) (store_of (F.stored files.old) (T.stored tables.old)) (answers (F.answers files.old) (T.answers tables.old)) run.old.calls.made)
+        (world (L.written log.new) (M.written mail.new) (O.written out.new) (store_of (F.stored files.new) (T.stored tables.new)) (answers (F.answers files.new) (T.answers tables.new)) run.new.calls.made) }
 {
     'records: loop {
         match reader.next() {

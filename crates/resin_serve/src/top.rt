@@ -8,9 +8,9 @@ ghost use Rattle.resin_trace.specs.Verdicts.{IsGood};
 ghost use Rattle.resin_serve.specs.Ran.{world};
 ghost use Rattle.resin_serve.specs.Gives.{CausedIn, counts, sinks};
 ghost use Rattle.resin_serve.specs.Kept.{Kept, keepers};
-ghost use Rattle.resin_site.specs.Keeping.{Later, store_of};
+ghost use Rattle.resin_site.specs.Keeping.{Later, answers, store_of};
 ghost use Rattle.resin_serve.specs.Asked.{meaning};
-ghost use Rattle.resin_serve.specs.Whole_run.{Runs, ReadCause, Finished, given_of_status};
+ghost use Rattle.resin_serve.specs.Whole_run.{RunsFrom, ReadCause, Finished, given_of_status};
 ghost use Rattle.resin_serve.specs.Words.{fuel_of};
 ghost use Rattle.resin_serve.specs.Headline.{Completes, Calm};
 ghost use Rattle.resin_serve.specs.declared.status.Status.TheVariants.{Usage};
@@ -46,10 +46,11 @@ pub fn serve<S: Source, O: Sink, L: Sink, M: Sink, F: Files, T: Tables>(
         × (result.made ≡ 0) × (result.failed ≡ []) }
 
     // What the sinks gained and the keepers hold is the meaning's, as far as the status says, and each answer that gave a byte obeys the access law.
-    ensures run { (fuel : ℕ) (all left : List ℕ) → fuel_of (map string_bytes words.now) ≡ Some fuel → S.left trace.old ≡ Some all → S.left trace.new ≡ Some left
-        → Runs result.status (meaning fuel) result.failed all left
-        (world (L.written log.old) (M.written mail.old) (O.written out.old) (store_of (F.stored files.old) (T.stored tables.old)) 0)
-        (world (L.written log.new) (M.written mail.new) (O.written out.new) (store_of (F.stored files.new) (T.stored tables.new)) result.made) }
+    // The keeper calls that were made are the meaning's, and where a keeper tells its answers, those of them that failed there are the listed ones.
+    ensures run { (fuel : ℕ) (all : List ℕ) → fuel_of (map string_bytes words.now) ≡ Some fuel → S.left trace.old ≡ Some all
+        → RunsFrom result.status (meaning fuel) result.failed all (S.left trace.new)
+        (world (L.written log.old) (M.written mail.old) (O.written out.old) (store_of (F.stored files.old) (T.stored tables.old)) (answers (F.answers files.old) (T.answers tables.old)) 0)
+        (world (L.written log.new) (M.written mail.new) (O.written out.new) (store_of (F.stored files.new) (T.stored tables.new)) (answers (F.answers files.new) (T.answers tables.new)) result.made) }
 
     // The failed calls are those that the keepers tell of, in order.
     ensures kept { Kept (keepers 0 [] (F.answers files.old) (F.faults files.old) (T.answers tables.old) (T.faults tables.old))
@@ -65,7 +66,7 @@ pub fn serve<S: Source, O: Sink, L: Sink, M: Sink, F: Files, T: Tables>(
     ensures read { ReadCause result.status (S.faults trace.old) (S.faults trace.new) }
 
     // A good trace over a calm outside is served to its end, unless memory is wanting or something isn't built.
-    ensures complete { (fuel : ℕ) (all left : List ℕ) → fuel_of (map string_bytes words.now) ≡ Some fuel → S.left trace.old ≡ Some all → S.left trace.new ≡ Some left → IsGood all
+    ensures complete { (fuel : ℕ) (all : List ℕ) → fuel_of (map string_bytes words.now) ≡ Some fuel → S.left trace.old ≡ Some all → IsGood all
         → Calm (S.faults trace.old) (S.faults trace.new)
         (sinks (counts (L.faults log.old) (L.stalls log.old)) (counts (M.faults mail.old) (M.stalls mail.old)) (counts (O.faults out.old) (O.stalls out.old)))
         (sinks (counts (L.faults log.new) (L.stalls log.new)) (counts (M.faults mail.new) (M.stalls mail.new)) (counts (O.faults out.new) (O.stalls out.new)))
@@ -126,10 +127,10 @@ fn serve_trace<S: Source, F: Files, T: Tables, L: Sink, M: Sink, O: Sink>(
         (sinks (counts (L.faults log.old) (L.stalls log.old)) (counts (M.faults mail.old) (M.stalls mail.old)) (counts (O.faults out.old) (O.stalls out.old)))
         (sinks (counts (L.faults log.new) (L.stalls log.new)) (counts (M.faults mail.new) (M.stalls mail.new)) (counts (O.faults out.new) (O.stalls out.new))) }
     ensures read { ReadCause result (S.faults trace.old) (S.faults trace.new) }
-    ensures ran { (K all left : List ℕ) → Later run.new.calls.made run.new.calls.failed K → S.left trace.old ≡ Some all → S.left trace.new ≡ Some left
-        → Runs result (meaning run.old.site) K all left
-        (world (L.written log.old) (M.written mail.old) (O.written out.old) (store_of (F.stored files.old) (T.stored tables.old)) run.old.calls.made)
-        (world (L.written log.new) (M.written mail.new) (O.written out.new) (store_of (F.stored files.new) (T.stored tables.new)) run.new.calls.made) }
+    ensures ran { (K all : List ℕ) → Later run.new.calls.made run.new.calls.failed K → S.left trace.old ≡ Some all
+        → RunsFrom result (meaning run.old.site) K all (S.left trace.new)
+        (world (L.written log.old) (M.written mail.old) (O.written out.old) (store_of (F.stored files.old) (T.stored tables.old)) (answers (F.answers files.old) (T.answers tables.old)) run.old.calls.made)
+        (world (L.written log.new) (M.written mail.new) (O.written out.new) (store_of (F.stored files.new) (T.stored tables.new)) (answers (F.answers files.new) (T.answers tables.new)) run.new.calls.made) }
 {
     let mut reader = TraceReader::new(run.alloc);
     let mut buffer = [0u8; 65536];

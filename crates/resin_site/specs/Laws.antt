@@ -1,12 +1,12 @@
 -- The access law of an answer: data leaves only through checked writes, and the answer is what they sent (RESIN's claim, over this project's journal).
-use Rattle.std.specs.Prelude.{◌≡◌, ◌≢◌, ℕ, Bool, List, ◌++◌, decimal, ◌⊎◌, Option, Some, None, ⊤}
+use Rattle.std.specs.Prelude.{◌≡◌, ◌≢◌, ℕ, Bool, List, [], ◌++◌, decimal, ◌⊎◌, Option, Some, None}
 use Rattle.resin_http.specs.Response.{response}
 use Rattle.resin_journal.specs.Access.{ObeysAccessLaw, ClassesAreNames}
 use Rattle.resin_stage.specs.Ties.{sent_body, sent_mails, sent_headers, sent_lines, IsPartOf, IsOneOf}
 use Rattle.resin_site.specs.declared.outcome.End.TheVariants.{Served, NotYet}
 use Rattle.resin_site.specs.declared.outcome.End.{End}
 use Rattle.resin_site.specs.declared.outcome.Outcome.{Outcome}
-use Rattle.resin_site.specs.Outcomes.{fixed_text, kind_at}
+use Rattle.resin_site.specs.Outcomes.{fixed_text, kind_at, refused, refusal_text}
 use Rattle.resin_site.specs.Replies.{Reply}
 use Rattle.resin_site.specs.Serving.{IsReply}
 
@@ -36,10 +36,21 @@ pub record TellsLawful (request : ℕ) (r : Reply) : Type 0 where
   pub told : IsReply outcome r
   pub lawful : IsLawful request outcome
 
+-- A refusal lets no data leave: nothing was written or mailed, no keeper was called, and its body is the fixed text of its status alone, of which
+-- the response is made.
+pub record IsRefusal (r : Reply) : Type 0 where
+  pub journal : r.journal ≡ []
+  pub log : r.log ≡ []
+  pub mail : r.mail ≡ []
+  pub calls : r.calls ≡ []
+  pub headers : r.headers ≡ []
+  pub body : r.body ≡ refused r.status
+  pub response : r.response ≡ refusal_text r.status
+
 abbrev pub ObeysIn : Option End → ℕ → Reply → Type 0
-ObeysIn None request r = ⊤
+ObeysIn None request r = IsRefusal r
 ObeysIn (Some end) request r = TellsLawful request r
 
--- a reply obeys the access law at this number; where the stream was refused nothing is asked of it
+-- a reply obeys the access law at this number: its outcome does, or the stream was refused, and no data left
 abbrev pub Obeys : ℕ → Reply → Type 0
 Obeys request r = ObeysIn r.end request r

@@ -1,17 +1,18 @@
-//! Serves requests to small sites, one site a line. Fields stand between `|`, and `\n` and `\r` stand for those bytes. `fuel N` at the front gives each request N ticks, instead
-//! of 100,000, and `fail N` lets the files' Nth call fail. Then come the files, each a field with its name, and behind a blank its shadow text where it has
+//! Serves requests to small sites, one site a line. Fields stand between `|`, and `\n`, `\r` and `\0` stand for those bytes. `fuel N` at the front gives each request N ticks,
+//! instead of 100,000, and `fail N ..` lets the files' Nth calls fail. Then come the files, each a field with its name, and behind a blank its shadow text where it has
 //! one, and a field with its bytes; and requests, each a field with the method and the target, and behind a newline further lines of the head, the
 //! empty one, and the body. A request is served when it is met, so that files behind it aren't there yet.
 //!
-//! A line is printed for each request: how it ended, its status, its keeper calls, the bytes of its response and the response, the denials, and the mail,
-//! where there are any; only `not yet` where the request met what isn't built. A line that begins with `# ` is a heading and is printed as it is.
+//! A line is printed for each request: how it ended, its status, its keeper calls with the numbers of those that failed, the bytes of its response and the response, the denials,
+//! and the mail, where there are any; no status where the request met what isn't built; and for a request that is refused the status and the response. A line that begins with `# ` is a heading and is printed as it is.
 //!
 //! The input, and the output, which was worked out by hand from the formats of requests and responses, are the table of the tests of a site.
 #![tactic(auto)]
 
-use resin_base::{Calls, CalmTables, FailList, FakeFiles};
+use resin_base::{Calls, FailList};
 use resin_http::{Step, next_request};
-use resin_site::{End, Outcome, Site, log_text, serve_one};
+use resin_memory::{CalmTables, FakeFiles};
+use resin_site::{End, Outcome, Site, log_text, refusal, serve_one};
 use std::alloc::{AllocError, Global};
 use std::io;
 
@@ -24,6 +25,7 @@ fn unescaped(alloc: Global, line: &str) -> Result<String, AllocError> {
             match c {
                 'n' => out.push('\n')?,
                 'r' => out.push('\r')?,
+                '0' => out.push('\0')?,
                 _ => {
                     out.push('\\')?;
                     out.push(c)?;
@@ -46,6 +48,7 @@ fn push_shown(alloc: Global, out: &mut String, bytes: &[u8]) -> Result<(), Alloc
         match c {
             '\n' => out.push_str("\\n")?,
             '\r' => out.push_str("\\r")?,
+            '\0' => out.push_str("\\0")?,
             _ => out.push(c)?,
         }
     }
@@ -72,19 +75,35 @@ fn shown_end(end: &End) -> &'static str {
     }
 }
 
-fn shown(alloc: Global, number: u64, o: &Outcome, calls: &Calls) -> Result<String, AllocError> {
-    let end = shown_end(&o.end);
-    if let End::NotYet = o.end {
-        return String::from_str(alloc, end);
-    }
-    let status = o.status;
+/// Adds how many calls were made, and which of them failed.
+fn push_calls(out: &mut String, calls: &Calls) -> Result<(), AllocError> {
     let made = calls.made;
+    write!(out, " | {made} calls")?;
+    for call in calls.failed.as_slice() {
+        write!(out, ", failed {call}")?;
+    }
+    Ok(())
+}
+
+fn shown(alloc: Global, number: u64, o: &Outcome, calls: &Calls) -> Result<String, AllocError> {
+    let mut out = String::from_str(alloc, shown_end(&o.end))?;
+    if !matches!(&o.end, End::NotYet) {
+        let status = o.status;
+        write!(out, " | {status}")?;
+    }
+    push_calls(&mut out, calls)?;
     let count = o.response.as_slice().len();
-    let mut out = format!(in alloc; "{end} | {status} | {made} calls | {count} bytes")?;
+    write!(out, " | {count} bytes")?;
     push_part(alloc, &mut out, o.response.as_slice())?;
     let log = log_text(alloc, number, &o.journal)?;
     push_part(alloc, &mut out, log.as_slice())?;
     push_part(alloc, &mut out, o.mail.as_slice())?;
+    Ok(out)
+}
+
+fn shown_refusal(alloc: Global, status: u16) -> Result<String, AllocError> {
+    let mut out = format!(in alloc; "refused {status}")?;
+    push_part(alloc, &mut out, refusal(alloc, status)?.as_slice())?;
     Ok(out)
 }
 
@@ -124,7 +143,7 @@ fn answer(
             )?;
             shown(alloc, number, &outcome, &calls)
         }
-        Step::Refuse { status } => format!(in alloc; "refused {status}"),
+        Step::Refuse { status } => shown_refusal(alloc, status),
         Step::Need => String::from_str(alloc, "no whole request"),
     }
 }
@@ -150,14 +169,21 @@ fn put_file(files: &mut FakeFiles, field: &str, bytes: &str) -> Result<(), Alloc
     files.put(name.as_bytes(), bytes.as_bytes(), shadow.as_bytes())
 }
 
-/// Takes the fields of a site one after the other, and answers its requests.
-fn answers(alloc: Global, fuel: u32, fail: Option<u32>, line: &str) -> Result<String, AllocError> {
-    let mut site = Site::new(alloc, fuel)?;
-    let mut failing = FailList::new(alloc);
-    if let Some(call) = fail {
-        failing.push(u64::from(call))?;
+/// The numbers that are written in words.
+fn numbers(alloc: Global, words: &str) -> Result<FailList, AllocError> {
+    let mut list = FailList::new(alloc);
+    for word in words.split(' ') {
+        if let Ok(number) = word.parse::<u64>() {
+            list.push(number)?;
+        }
     }
-    let mut files = FakeFiles::new(alloc, failing);
+    Ok(list)
+}
+
+/// Takes the fields of a site one after the other, and answers its requests.
+fn answers(alloc: Global, fuel: u32, fail: FailList, line: &str) -> Result<String, AllocError> {
+    let mut site = Site::new(alloc, fuel)?;
+    let mut files = FakeFiles::new(alloc, fail);
     let mut number = 1_u64;
     let mut out = String::new(alloc);
     let mut name: Option<&str> = None;
@@ -179,15 +205,12 @@ fn answers(alloc: Global, fuel: u32, fail: Option<u32>, line: &str) -> Result<St
     Ok(out)
 }
 
-/// The number behind a word at the front of a line, and the rest of the line.
-fn option<'a>(word: &str, line: &'a str) -> (Option<u32>, &'a str) {
+/// What stands behind a word at the front of a line, and the rest of the line. Nothing where the word isn't there.
+fn option<'a>(word: &str, line: &'a str) -> (&'a str, &'a str) {
     let (front, rest) = cut(line);
     match front.strip_prefix(word) {
-        Some(digits) => match digits.parse::<u32>() {
-            Ok(number) => (Some(number), rest),
-            Err(_) => (None, line),
-        },
-        None => (None, line),
+        Some(numbers) => (numbers, rest),
+        None => ("", line),
     }
 }
 
@@ -198,7 +221,8 @@ fn run(alloc: Global, line: &str) -> Result<String, AllocError> {
     let text = unescaped(alloc, line)?;
     let (fuel, rest) = option("fuel ", text.as_str());
     let (fail, rest) = option("fail ", rest);
-    answers(alloc, fuel.unwrap_or(100_000), fail, rest)
+    let fuel = fuel.parse::<u32>().unwrap_or(100_000);
+    answers(alloc, fuel, numbers(alloc, fail)?, rest)
 }
 
 fn main(rt: HostRuntime) -> io::Result<()> {

@@ -2,17 +2,17 @@
 use Rattle.std.proofs.Common.{◌≡◌, ℕ, ◌<◌, nat_eq, ◌==◌, ◌||◌, ◌&&◌, Bool, true, false, not, cond, List, [], ◌∷◌, ◌++◌, map, filter, refl, sym, ap, subst, ◌∙◌, append_assoc, append-nil, true≢false}
 use Rattle.std.specs.Prelude.{nat_lt, nat_le}
 use Rattle.std.specs.List.{list_all, list_any, flat_map}
-use Rattle.resin_label.specs.Sets.{numbers}
+use Rattle.resin_scope.specs.Under.label.Sets.{numbers}
 use Rattle.std.specs.Cmp.Lexicographic.{pointwise, bytes_decides}
 use Rattle.std.proofs.lemmas.Bool.{and_parts, and_from, ne_eqb, eqb-false}
 use Rattle.std.proofs.lemmas.List.{map-append}
 use Rattle.std.proofs.lemmas.List.Folds.{list_all-append, list_any-append}
 use Rattle.std.proofs.lemmas.List.Elements.{filter-append}
-use Rattle.resin_lstr.specs.Texts.{distinct, policies_in_order, sets_of}
-use Rattle.resin_journal.specs.declared.event.Event.{Event}
-use Rattle.resin_journal.specs.declared.event.Event.TheVariants.{Passed, Sent, Denied, FilterDenied}
-use Rattle.resin_journal.specs.Events.{EventList}
-use Rattle.resin_journal.specs.Access.{write_of, is_placed, events_of, passed_first, behind_passed, is_among, are_distinct, may_end, is_one_write, never_fall, writes_of, ObeysAccessLaw}
+use Rattle.resin_scope.specs.Under.lstr.Texts.{distinct, policies_in_order, sets_of}
+use Rattle.resin_scope.specs.Under.journal.declared.event.Event.{Event}
+use Rattle.resin_scope.specs.Under.journal.declared.event.Event.TheVariants.{Passed, Sent, Denied, FilterDenied}
+use Rattle.resin_scope.specs.Under.journal.Events.{EventList}
+use Rattle.resin_scope.specs.Under.journal.Access.{write_of, is_placed, events_of, passed_first, behind_passed, is_among, are_distinct, may_end, is_one_write, never_fall, writes_of, ObeysAccessLaw}
 use Rattle.resin_stage.specs.Writes.{FrontsObey}
 
 never : {A : Type 0} → false ≡ true → A

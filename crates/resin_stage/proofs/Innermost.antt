@@ -1,9 +1,9 @@
 -- The innermost buffer is the last one.
 use Rattle.std.proofs.Common.{◌≡◌, ℕ, zero, suc, ◌+◌, ◌-◌, ◌≤◌, ◌<◌, List, [], ◌∷◌, ◌++◌, length, get_or, Result, Ok, Err, refl, sym, ap, subst, ◌∙◌, arith}
 use Rattle.std.proofs.Math.ListN.{set, length-set}
-use Rattle.resin_lstr.specs.Texts.{Text, LONGEST}
-use Rattle.resin_lstr.specs.declared.text.TextFault.{TextFault}
-use Rattle.resin_lstr.specs.declared.text.TextFault.TheVariants.{TooLong, Memory}
+use Rattle.resin_scope.specs.Under.lstr.Texts.{Text, LONGEST}
+use Rattle.resin_scope.specs.Under.lstr.declared.text.TextFault.{TextFault}
+use Rattle.resin_scope.specs.Under.lstr.declared.text.TextFault.TheVariants.{TooLong, Memory}
 use Rattle.resin_scope.specs.Pages.{innermost, appended_to_innermost}
 use Rattle.resin_stage.specs.Buffered.{Joined, Joins}
 

@@ -8,13 +8,13 @@ use Rattle.std.proofs.lemmas.List.Elements.{filter-append}
 use Rattle.std.proofs.lemmas.List.Folds.{list_all-append, list_any-append}
 use Rattle.std.proofs.lemmas.Bool.Decides.{nat_tests}
 use Rattle.resin_scan.specs.Words.{IsName}
-use Rattle.resin_lstr.specs.Texts.{Text, policies_in_order}
-use Rattle.resin_journal.specs.declared.event.Event.{Event}
-use Rattle.resin_journal.specs.declared.event.Event.TheVariants.{Passed, Sent, Denied, FilterDenied}
-use Rattle.resin_journal.specs.declared.channel.Channel.{Channel}
-use Rattle.resin_journal.specs.Channels.{is_leaving}
-use Rattle.resin_journal.specs.Events.{EventList}
-use Rattle.resin_journal.specs.Access.{write_of, is_placed, events_of, passed_first, behind_passed, is_among, are_distinct, may_end, is_one_write, never_fall, writes_of, ObeysAccessLaw, TellsNames, ClassesAreNames}
+use Rattle.resin_scope.specs.Under.lstr.Texts.{Text, policies_in_order}
+use Rattle.resin_scope.specs.Under.journal.declared.event.Event.{Event}
+use Rattle.resin_scope.specs.Under.journal.declared.event.Event.TheVariants.{Passed, Sent, Denied, FilterDenied}
+use Rattle.resin_scope.specs.Under.journal.declared.channel.Channel.{Channel}
+use Rattle.resin_scope.specs.Under.journal.Channels.{is_leaving}
+use Rattle.resin_scope.specs.Under.journal.Events.{EventList}
+use Rattle.resin_scope.specs.Under.journal.Access.{write_of, is_placed, events_of, passed_first, behind_passed, is_among, are_distinct, may_end, is_one_write, never_fall, writes_of, ObeysAccessLaw, TellsNames, ClassesAreNames}
 use Rattle.resin_stage.specs.Writes.{IsLawful, IsOpen, MayAsk, MaySend}
 
 false_true : false ≡ true → ⊥

@@ -3,3 +3,5 @@ pub mod Tied
 pub mod Innermost
 pub mod Plain
 pub mod Fronts
+-- Passed on to the crates above, which list this one alone.
+pub use Rattle.resin_scope.proofs as scope_lemmas

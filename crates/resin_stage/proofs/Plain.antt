@@ -1,12 +1,12 @@
 -- A text without labels has no policies.
 use Rattle.std.proofs.Common.{◌≡◌, ℕ, nat_eq, List, [], ◌∷◌, ◌++◌, refl, sym, ap, subst, ◌∙◌}
 use Rattle.std.specs.List.{flat_map}
-use Rattle.resin_label.specs.Sets.{NumberSet, empty, numbers}
-use Rattle.resin_label.proofs.Members.{of_rising-nil, numbers-of_rising}
+use Rattle.resin_scope.specs.Under.label.Sets.{NumberSet, empty, numbers}
+use Rattle.resin_scope.proofs.label_lemmas.Members.{of_rising-nil, numbers-of_rising}
 use Rattle.std.specs.Prelude.{Option, Some}
-use Rattle.resin_bytes.specs.declared.header.Header.{Header}
-use Rattle.resin_lstr.specs.Texts.{Text, carrying, bytes_of, sets_of, distinct, policies_in_order}
-use Rattle.resin_journal.specs.Events.{EventList}
+use Rattle.resin_scope.specs.Under.bytes.declared.header.Header.{Header}
+use Rattle.resin_scope.specs.Under.lstr.Texts.{Text, carrying, bytes_of, sets_of, distinct, policies_in_order}
+use Rattle.resin_scope.specs.Under.journal.Events.{EventList}
 use Rattle.resin_stage.specs.Lines.{header_line}
 use Rattle.resin_stage.specs.Writes.{IsOpen, MaySend}
 

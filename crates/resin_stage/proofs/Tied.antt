@@ -5,12 +5,12 @@ use Rattle.std.specs.List.{filter, filter_map, flat_map}
 use Rattle.std.proofs.lemmas.List.{append-nil}
 use Rattle.std.proofs.lemmas.List.Elements.{filter_map-append}
 use Rattle.std.proofs.lemmas.Grind.{flat_map-append}
-use Rattle.resin_bytes.specs.declared.header.Header.{Header}
-use Rattle.resin_lstr.specs.Texts.{Text, bytes_of}
-use Rattle.resin_journal.specs.declared.event.Event.{Event}
-use Rattle.resin_journal.specs.declared.event.Event.TheVariants.{Sent}
-use Rattle.resin_journal.specs.declared.channel.Channel.TheVariants.{Http, Header as HeaderChannel, Email}
-use Rattle.resin_journal.specs.Events.{EventList}
+use Rattle.resin_scope.specs.Under.bytes.declared.header.Header.{Header}
+use Rattle.resin_scope.specs.Under.lstr.Texts.{Text, bytes_of}
+use Rattle.resin_scope.specs.Under.journal.declared.event.Event.{Event}
+use Rattle.resin_scope.specs.Under.journal.declared.event.Event.TheVariants.{Sent}
+use Rattle.resin_scope.specs.Under.journal.declared.channel.Channel.TheVariants.{Http, Header as HeaderChannel, Email}
+use Rattle.resin_scope.specs.Under.journal.Events.{EventList}
 use Rattle.resin_scope.specs.Pages.{other_headers, headers_with, status_with}
 use Rattle.resin_stage.specs.Lines.{mail_record, header_line}
 use Rattle.resin_stage.specs.Stages.{Stage, new_stage, noted, sent_page, sent_header, sent_status, sent_mail}

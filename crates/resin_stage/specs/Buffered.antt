@@ -1,8 +1,8 @@
 -- What putting a text into a buffer leaves.
 use Rattle.std.specs.Prelude.{◌≡◌, ◌<◌, ◌≤◌, List, ◌++◌, length, Result, Ok, Err, ⊤}
-use Rattle.resin_lstr.specs.Texts.{Text, LONGEST}
-use Rattle.resin_lstr.specs.declared.text.TextFault.{TextFault}
-use Rattle.resin_lstr.specs.declared.text.TextFault.TheVariants.{TooLong, Memory}
+use Rattle.resin_scope.specs.Under.lstr.Texts.{Text, LONGEST}
+use Rattle.resin_scope.specs.Under.lstr.declared.text.TextFault.{TextFault}
+use Rattle.resin_scope.specs.Under.lstr.declared.text.TextFault.TheVariants.{TooLong, Memory}
 use Rattle.resin_scope.specs.Pages.{innermost, appended_to_innermost}
 
 -- the text stands behind the other, TooLong where both are too long together; after want of memory the other may be lost

@@ -3,3 +3,4 @@ pub mod Writes
 pub mod Lines
 pub mod Ties
 pub mod Buffered
+pub mod Under

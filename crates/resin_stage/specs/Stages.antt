@@ -1,12 +1,12 @@
 -- What leaves a request: its writes so far, and the answer under way (this project).
 use Rattle.std.specs.Prelude.{ℕ, Bool, ◌+◌, List, [], ◌∷◌, ◌++◌, refl}
 use Rattle.std.specs.Coded.{Coded, code_by, coded×, coded_ℕ, coded_list}
-use Rattle.resin_bytes.specs.declared.header.Header.{Header}
-use Rattle.resin_lstr.specs.Texts.{Text, text_code, bytes_of}
-use Rattle.resin_journal.specs.declared.event.Event.{Event}
-use Rattle.resin_journal.specs.declared.event.Event.TheVariants.{Sent}
-use Rattle.resin_journal.specs.declared.channel.Channel.TheVariants.{Http, Header as HeaderChannel, Email}
-use Rattle.resin_journal.specs.Events.{EventList, events_code}
+use Rattle.resin_scope.specs.Under.bytes.declared.header.Header.{Header}
+use Rattle.resin_scope.specs.Under.lstr.Texts.{Text, text_code, bytes_of}
+use Rattle.resin_scope.specs.Under.journal.declared.event.Event.{Event}
+use Rattle.resin_scope.specs.Under.journal.declared.event.Event.TheVariants.{Sent}
+use Rattle.resin_scope.specs.Under.journal.declared.channel.Channel.TheVariants.{Http, Header as HeaderChannel, Email}
+use Rattle.resin_scope.specs.Under.journal.Events.{EventList, events_code}
 use Rattle.resin_scope.specs.Pages.{headers_with, status_with, appended_to_innermost}
 use Rattle.resin_stage.specs.Lines.{mail_record}
 

@@ -1,13 +1,13 @@
 -- What went out is what the journal says was sent (the access law of an answer).
 use Rattle.std.specs.Prelude.{◌≡◌, ℕ, List, [], ◌∷◌, Option, Some, None, decimal, ◌⊎◌, ⊤}
 use Rattle.std.specs.List.{flat_map, filter_map}
-use Rattle.resin_bytes.specs.declared.header.Header.{Header}
-use Rattle.resin_lstr.specs.Texts.{Text, bytes_of}
-use Rattle.resin_journal.specs.declared.event.Event.{Event}
-use Rattle.resin_journal.specs.declared.event.Event.TheVariants.{Passed, Sent, Denied, FilterDenied}
-use Rattle.resin_journal.specs.declared.channel.Channel.{Channel}
-use Rattle.resin_journal.specs.declared.channel.Channel.TheVariants.{Http, Header as HeaderChannel, Email, File, Sql, Code, Input, Func}
-use Rattle.resin_journal.specs.Events.{EventList}
+use Rattle.resin_scope.specs.Under.bytes.declared.header.Header.{Header}
+use Rattle.resin_scope.specs.Under.lstr.Texts.{Text, bytes_of}
+use Rattle.resin_scope.specs.Under.journal.declared.event.Event.{Event}
+use Rattle.resin_scope.specs.Under.journal.declared.event.Event.TheVariants.{Passed, Sent, Denied, FilterDenied}
+use Rattle.resin_scope.specs.Under.journal.declared.channel.Channel.{Channel}
+use Rattle.resin_scope.specs.Under.journal.declared.channel.Channel.TheVariants.{Http, Header as HeaderChannel, Email, File, Sql, Code, Input, Func}
+use Rattle.resin_scope.specs.Under.journal.Events.{EventList}
 use Rattle.resin_stage.specs.Lines.{mail_record, header_line}
 use Rattle.resin_stage.specs.Stages.{Stage}
 

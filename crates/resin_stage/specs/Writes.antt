@@ -1,11 +1,11 @@
 -- Writes under way, and what every stage keeps: the access law of its journal.
 use Rattle.std.specs.Prelude.{◌≡◌, ℕ, ◌<◌, nat_le, Bool, true, false, List, [], ◌∷◌, ◌++◌, map, IsTrue}
 use Rattle.std.specs.List.{list_all}
-use Rattle.resin_lstr.specs.Texts.{Text, policies_in_order}
-use Rattle.resin_journal.specs.declared.event.Event.{Event}
-use Rattle.resin_journal.specs.declared.event.Event.TheVariants.{Passed}
-use Rattle.resin_journal.specs.Events.{EventList}
-use Rattle.resin_journal.specs.Access.{write_of, events_of, is_among, are_distinct, ObeysAccessLaw, ClassesAreNames}
+use Rattle.resin_scope.specs.Under.lstr.Texts.{Text, policies_in_order}
+use Rattle.resin_scope.specs.Under.journal.declared.event.Event.{Event}
+use Rattle.resin_scope.specs.Under.journal.declared.event.Event.TheVariants.{Passed}
+use Rattle.resin_scope.specs.Under.journal.Events.{EventList}
+use Rattle.resin_scope.specs.Under.journal.Access.{write_of, events_of, is_among, are_distinct, ObeysAccessLaw, ClassesAreNames}
 
 -- the journal obeys the access law, no event has a larger number than the last one drawn, and classes are told by names
 pub record IsLawful (journal : EventList) (writes : ℕ) : Type 0 where

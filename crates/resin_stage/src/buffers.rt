@@ -1,10 +1,10 @@
 //! Output buffers.
 ghost use Rattle.std.specs.Prelude.{◌≡◌, ◌<◌, ◌≤◌, ◌+◌, [], ◌∷◌, ◌++◌, length, MatchOption, OnOk, OnErr};
-ghost use Rattle.resin_lstr.specs.Texts.{LONGEST};
+ghost use Rattle.resin_scope.specs.Under.lstr.Texts.{LONGEST};
 ghost use Rattle.resin_scope.specs.Pages.{innermost, appended_to_innermost};
 ghost use Rattle.resin_stage.specs.Buffered.{Joined, Joins};
 
-use resin_lstr::{Builder, LText, TextFault};
+use resin_scope::under::lstr::{Builder, LText, TextFault};
 use std::alloc::{AllocError, Global};
 use std::marker::Model;
 use std::mem;
@@ -20,7 +20,7 @@ pub(crate) struct Buffers {
 impl Model for Buffers {
     ghost use Rattle.std.specs.Prelude.{List};
     ghost use Rattle.std.specs.Coded.{coded_list};
-    ghost use Rattle.resin_lstr.specs.Texts.{Text, text_code};
+    ghost use Rattle.resin_scope.specs.Under.lstr.Texts.{Text, text_code};
 
     ghost Value = { List Text };
 

@@ -3,8 +3,8 @@ ghost use Rattle.std.specs.Prelude.{◌≡◌, IfOk};
 ghost use Rattle.resin_stage.specs.Lines.{mail_record};
 
 use itoa::Buffer;
-use resin_bytes::Bytes;
-use resin_lstr::LText;
+use resin_scope::under::bytes::Bytes;
+use resin_scope::under::lstr::LText;
 use std::alloc::{AllocError, Global};
 
 /// The record of a mail: `mail request=Q len=N`, a newline, the text and a newline.

@@ -5,6 +5,7 @@ mod buffers;
 mod law;
 mod letter;
 mod stage;
+pub mod under;
 
 pub use law::journal_laws;
 pub use stage::Stage;

@@ -1,22 +1,22 @@
 //! The writes of a request, and the answer under way.
 ghost use Rattle.std.specs.Prelude.{◌≡◌, false, ℕ, ◌+◌, ◌-◌, ◌^◌, ◌<◌, ◌≤◌, [], ◌∷◌, ◌++◌, length, decimal, Some, IfSome, IfNone, MatchOption, OnOk, OnErr, IsTrue};
 ghost use Rattle.resin_scan.specs.Words.{IsName};
-ghost use Rattle.resin_lstr.specs.Texts.{bytes_of};
-ghost use Rattle.resin_journal.specs.Channels.{is_leaving};
-ghost use Rattle.resin_journal.specs.declared.event.Event.{Event as JournalEvent};
+ghost use Rattle.resin_scope.specs.Under.lstr.Texts.{bytes_of};
+ghost use Rattle.resin_scope.specs.Under.journal.Channels.{is_leaving};
+ghost use Rattle.resin_scope.specs.Under.journal.declared.event.Event.{Event as JournalEvent};
 ghost use Rattle.resin_stage.specs.Stages.{new_stage, drawn, noted, sent_page, sent_header, sent_status, sent_mail, opened};
 ghost use Rattle.resin_stage.specs.Writes.{IsLawful, IsOpen, MayAsk, MaySend};
 ghost use Rattle.resin_stage.specs.Lines.{header_line};
 ghost use Rattle.resin_stage.specs.Ties.{IsTied};
 ghost use Rattle.resin_stage.specs.Buffered.{Joins};
-ghost use Rattle.resin_bytes.specs.declared.header.Header.{Header as HeaderField};
+ghost use Rattle.resin_scope.specs.Under.bytes.declared.header.Header.{Header as HeaderField};
 
 use crate::buffers::Buffers;
 use crate::letter::mail_record;
-use resin_bytes::{Bytes, HeaderList};
-use resin_journal::{Channel, Event, Journal};
-use resin_lstr::{Builder, LText, TextFault};
 use resin_scope::Page;
+use resin_scope::under::bytes::{Bytes, HeaderList};
+use resin_scope::under::journal::{Channel, Event, Journal};
+use resin_scope::under::lstr::{Builder, LText, TextFault};
 use std::alloc::{AllocError, Global};
 use std::marker::Model;
 

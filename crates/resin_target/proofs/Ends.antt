@@ -1,9 +1,9 @@
 -- How a step on a target ends, by what its parts answered.
 use Rattle.std.proofs.Common.{◌≡◌, ◌≢◌, ℕ, ◌≤◌, List, Bool, true, false, cond, Option, Some, None, Result, Ok, Err, unwrap_or, refl, sym, ap, subst, ◌∙◌, arith}
-use Rattle.resin_scalar.specs.declared.faults.CallStop.{CallStop}
-use Rattle.resin_scalar.specs.declared.faults.CallStop.TheVariants.{Throw, Fault as CallFault, Memory as CallMemory}
-use Rattle.resin_scalar.specs.declared.faults.ScriptFault.{ScriptFault}
-use Rattle.resin_value.specs.declared.value.Value.{Value}
+use Rattle.resin_ops.specs.Under.scalar.declared.faults.CallStop.{CallStop}
+use Rattle.resin_ops.specs.Under.scalar.declared.faults.CallStop.TheVariants.{Throw, Fault as CallFault, Memory as CallMemory}
+use Rattle.resin_ops.specs.Under.scalar.declared.faults.ScriptFault.{ScriptFault}
+use Rattle.resin_ops.specs.Under.value.declared.value.Value.{Value}
 use Rattle.resin_machine.specs.declared.stop.Stop.{Stop}
 use Rattle.resin_machine.specs.declared.stop.Stop.TheVariants.{Thrown, Exit, Fault, Keeper, Memory}
 use Rattle.resin_machine.specs.State.{State}

@@ -7,15 +7,15 @@ use Rattle.std.specs.Str.{bytes_eq}
 use Rattle.std.specs.FinMap.{get, insert, contains_key}
 use Rattle.std.proofs.lemmas.Bool.Decides.{nat_tests}
 use Rattle.indexmap.specs.IndexMap.{insert_entry}
-use Rattle.resin_scalar.specs.declared.faults.ScriptFault.TheVariants.{BadOperand}
-use Rattle.resin_value.specs.declared.value.Value.{Value}
-use Rattle.resin_value.specs.declared.value.Value.TheVariants.{Null}
-use Rattle.resin_value.specs.Values.{FieldList}
-use Rattle.resin_scope.specs.Frames.{Frame, Frames, Variables, set_in, assigned}
-use Rattle.resin_scope.proofs.NameLemmas.{insert_twice}
-use Rattle.resin_heap.specs.declared.heap.Object.{Object}
-use Rattle.resin_heap.specs.Objects.{IsObject, field, with_field, class_at, fields_at, with_fields}
-use Rattle.resin_stage.specs.Stages.{Stage}
+use Rattle.resin_ops.specs.Under.scalar.declared.faults.ScriptFault.TheVariants.{BadOperand}
+use Rattle.resin_ops.specs.Under.value.declared.value.Value.{Value}
+use Rattle.resin_ops.specs.Under.value.declared.value.Value.TheVariants.{Null}
+use Rattle.resin_ops.specs.Under.value.Values.{FieldList}
+use Rattle.resin_machine.specs.Under.scope.Frames.{Frame, Frames, Variables, set_in, assigned}
+use Rattle.resin_machine.proofs.scope_lemmas.NameLemmas.{insert_twice}
+use Rattle.resin_machine.specs.Under.heap.declared.heap.Object.{Object}
+use Rattle.resin_machine.specs.Under.heap.Objects.{IsObject, field, with_field, class_at, fields_at, with_fields}
+use Rattle.resin_machine.specs.Under.stage.Stages.{Stage}
 use Rattle.resin_machine.specs.declared.stop.Stop.{Stop}
 use Rattle.resin_machine.specs.declared.stop.Stop.TheVariants.{Fault}
 use Rattle.resin_machine.specs.State.{State}

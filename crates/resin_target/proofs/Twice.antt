@@ -2,18 +2,18 @@
 use Rattle.std.proofs.Common.{◌≡◌, ℕ, ℤ, ◌+◌, ◌≤◌, max, List, [], ◌∷◌, Bool, true, false, cond, nat_lt, Option, Some, None, Result, Ok, Err, refl, sym, ap, ◌∙◌, arith}
 use Rattle.std.specs.Prelude.{int_lt}
 use Rattle.std.proofs.lemmas.Bool.Decides.{nat_tests}
-use Rattle.resin_scalar.specs.declared.faults.ScriptFault.TheVariants.{ArrayTooDeep}
-use Rattle.resin_scalar.specs.declared.faults.CallStop.TheVariants.{Fault as CallFault}
-use Rattle.resin_value.specs.declared.key.Key.{Key}
-use Rattle.resin_value.specs.declared.key.Key.TheVariants.{Int as IntKey, Text as TextKey}
-use Rattle.resin_value.specs.Keys.{key_eq}
-use Rattle.resin_value.specs.declared.value.Value.{Value}
-use Rattle.resin_value.specs.declared.value.Value.TheVariants.{Arr}
-use Rattle.resin_value.specs.Trees.{Tree, null, boolean, integer, text, array, object}
-use Rattle.resin_value.specs.Seen.{tree_of}
-use Rattle.resin_value.specs.Arrays.{Array}
-use Rattle.resin_value.specs.Changes.{put_at, put, largest_with, raised, height_in}
-use Rattle.resin_value.proofs.Keeps.{key_itself}
+use Rattle.resin_ops.specs.Under.scalar.declared.faults.ScriptFault.TheVariants.{ArrayTooDeep}
+use Rattle.resin_ops.specs.Under.scalar.declared.faults.CallStop.TheVariants.{Fault as CallFault}
+use Rattle.resin_ops.specs.Under.value.declared.key.Key.{Key}
+use Rattle.resin_ops.specs.Under.value.declared.key.Key.TheVariants.{Int as IntKey, Text as TextKey}
+use Rattle.resin_ops.specs.Under.value.Keys.{key_eq}
+use Rattle.resin_ops.specs.Under.value.declared.value.Value.{Value}
+use Rattle.resin_ops.specs.Under.value.declared.value.Value.TheVariants.{Arr}
+use Rattle.resin_ops.specs.Under.value.Trees.{Tree, null, boolean, integer, text, array, object}
+use Rattle.resin_ops.specs.Under.value.Seen.{tree_of}
+use Rattle.resin_ops.specs.Under.value.Arrays.{Array}
+use Rattle.resin_ops.specs.Under.value.Changes.{put_at, put, largest_with, raised, height_in}
+use Rattle.resin_ops.proofs.value_lemmas.Keeps.{key_itself}
 use Rattle.resin_target.specs.Stores.{put_in}
 
 put_at_twice : (k : Key) (x y : Tree) (es : List (Key × Tree)) → put_at k y (put_at k x es) ≡ put_at k y es

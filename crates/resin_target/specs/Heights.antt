@@ -1,11 +1,11 @@
 -- How high a value is that a change gives: what has to be known before the change is made.
 use Rattle.std.specs.Prelude.{◌≡◌, ℕ, ◌+◌, max, nat_lt, List, Result, Ok, Err, if◌then◌else◌}
-use Rattle.resin_scalar.specs.declared.faults.ScriptFault.TheVariants.{ArrayTooDeep}
-use Rattle.resin_scalar.specs.declared.faults.CallStop.{CallStop}
-use Rattle.resin_scalar.specs.declared.faults.CallStop.TheVariants.{Fault as CallFault}
-use Rattle.resin_value.specs.declared.value.Value.{Value}
-use Rattle.resin_value.specs.Seen.{tree_of}
-use Rattle.resin_value.specs.Changes.{height_in}
+use Rattle.resin_ops.specs.Under.scalar.declared.faults.ScriptFault.TheVariants.{ArrayTooDeep}
+use Rattle.resin_ops.specs.Under.scalar.declared.faults.CallStop.{CallStop}
+use Rattle.resin_ops.specs.Under.scalar.declared.faults.CallStop.TheVariants.{Fault as CallFault}
+use Rattle.resin_ops.specs.Under.value.declared.value.Value.{Value}
+use Rattle.resin_ops.specs.Under.value.Seen.{tree_of}
+use Rattle.resin_ops.specs.Under.value.Changes.{height_in}
 use Rattle.resin_target.specs.Reads.{on}
 
 -- the height that the value gives an array that holds it

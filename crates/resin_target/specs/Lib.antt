@@ -3,3 +3,4 @@ pub mod Reads
 pub mod Stores
 pub mod Heights
 pub mod Targets
+pub mod Under

@@ -1,18 +1,18 @@
 -- What stands at an index and at a property of a value (PHP manual, "Arrays", "String access and modification by character", "Properties"). What isn't
 -- there reads as null.
 use Rattle.std.specs.Prelude.{◌≡◌, ℕ, Bool, List, [], ◌∷◌, Option, None, Some, Result, Ok, Err, unwrap_or, if◌then◌else◌}
-use Rattle.resin_scalar.specs.declared.faults.ScriptFault.TheVariants.{BadOperand}
-use Rattle.resin_scalar.specs.declared.faults.CallStop.{CallStop}
-use Rattle.resin_scalar.specs.declared.faults.CallStop.TheVariants.{Throw, Fault as CallFault, Memory as CallMemory}
-use Rattle.resin_value.specs.declared.key.Key.{Key}
-use Rattle.resin_value.specs.declared.value.Value.{Value}
-use Rattle.resin_value.specs.declared.value.Value.TheVariants.{Null, Bool as Truth, Int, Text, Arr, Obj}
-use Rattle.resin_value.specs.Values.{value_of}
-use Rattle.resin_value.specs.Trees.{Tree, null}
-use Rattle.resin_value.specs.Seen.{tree_of}
-use Rattle.resin_value.specs.Arrays.{Array}
-use Rattle.resin_value.specs.Changes.{lookup}
-use Rattle.resin_heap.specs.Objects.{field, fields_at}
+use Rattle.resin_ops.specs.Under.scalar.declared.faults.ScriptFault.TheVariants.{BadOperand}
+use Rattle.resin_ops.specs.Under.scalar.declared.faults.CallStop.{CallStop}
+use Rattle.resin_ops.specs.Under.scalar.declared.faults.CallStop.TheVariants.{Throw, Fault as CallFault, Memory as CallMemory}
+use Rattle.resin_ops.specs.Under.value.declared.key.Key.{Key}
+use Rattle.resin_ops.specs.Under.value.declared.value.Value.{Value}
+use Rattle.resin_ops.specs.Under.value.declared.value.Value.TheVariants.{Null, Bool as Truth, Int, Text, Arr, Obj}
+use Rattle.resin_ops.specs.Under.value.Values.{value_of}
+use Rattle.resin_ops.specs.Under.value.Trees.{Tree, null}
+use Rattle.resin_ops.specs.Under.value.Seen.{tree_of}
+use Rattle.resin_ops.specs.Under.value.Arrays.{Array}
+use Rattle.resin_ops.specs.Under.value.Changes.{lookup}
+use Rattle.resin_machine.specs.Under.heap.Objects.{field, fields_at}
 use Rattle.resin_machine.specs.State.{State}
 use Rattle.resin_machine.specs.Objects.{is_object}
 use Rattle.resin_ops.specs.Conversions.{key_of}

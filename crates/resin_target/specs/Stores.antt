@@ -1,16 +1,16 @@
 -- What a store under indices makes of a value, what stands under them, and what is left where a key is taken out (PHP manual, "Arrays").
 use Rattle.std.specs.Prelude.{◌≡◌, ℕ, nat_lt, List, [], ◌∷◌, Option, None, Some, ℤ, is_some, Result, Ok, Err, if◌then◌else◌}
-use Rattle.resin_scalar.specs.declared.faults.ScriptFault.TheVariants.{BadOperand, ArrayTooDeep}
-use Rattle.resin_scalar.specs.declared.faults.CallStop.{CallStop}
-use Rattle.resin_scalar.specs.declared.faults.CallStop.TheVariants.{Throw, Fault as CallFault}
-use Rattle.resin_scalar.specs.declared.faults.ErrorKind.TheVariants.{Plain}
-use Rattle.resin_value.specs.declared.key.Key.{Key}
-use Rattle.resin_value.specs.declared.key.Key.TheVariants.{Int as IntKey}
-use Rattle.resin_value.specs.declared.value.Value.{Value}
-use Rattle.resin_value.specs.declared.value.Value.TheVariants.{Null, Bool as Truth, Int, Text, Arr, Obj}
-use Rattle.resin_value.specs.Seen.{tree_of}
-use Rattle.resin_value.specs.Arrays.{Array}
-use Rattle.resin_value.specs.Changes.{lookup, put, without, raised, height_in, next_of, empty}
+use Rattle.resin_ops.specs.Under.scalar.declared.faults.ScriptFault.TheVariants.{BadOperand, ArrayTooDeep}
+use Rattle.resin_ops.specs.Under.scalar.declared.faults.CallStop.{CallStop}
+use Rattle.resin_ops.specs.Under.scalar.declared.faults.CallStop.TheVariants.{Throw, Fault as CallFault}
+use Rattle.resin_ops.specs.Under.scalar.declared.faults.ErrorKind.TheVariants.{Plain}
+use Rattle.resin_ops.specs.Under.value.declared.key.Key.{Key}
+use Rattle.resin_ops.specs.Under.value.declared.key.Key.TheVariants.{Int as IntKey}
+use Rattle.resin_ops.specs.Under.value.declared.value.Value.{Value}
+use Rattle.resin_ops.specs.Under.value.declared.value.Value.TheVariants.{Null, Bool as Truth, Int, Text, Arr, Obj}
+use Rattle.resin_ops.specs.Under.value.Seen.{tree_of}
+use Rattle.resin_ops.specs.Under.value.Arrays.{Array}
+use Rattle.resin_ops.specs.Under.value.Changes.{lookup, put, without, raised, height_in, next_of, empty}
 use Rattle.resin_ops.specs.Conversions.{key_of}
 use Rattle.resin_target.specs.declared.path.Index.{Index}
 use Rattle.resin_target.specs.declared.path.Index.TheVariants.{At, Next}

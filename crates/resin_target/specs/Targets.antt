@@ -1,11 +1,11 @@
 -- Steps on targets: reading one, storing into one, unsetting one. Its keys are turned as the step comes to them, from the left (this project).
 use Rattle.std.specs.Prelude.{◌≡◌, ℕ, Bool, true, false, List, [], ◌∷◌, Option, None, Some, Result, Ok, Err, unwrap_or, if◌then◌else◌}
 use Rattle.std.specs.Option.{option_map}
-use Rattle.resin_scalar.specs.declared.faults.ScriptFault.TheVariants.{BadOperand}
-use Rattle.resin_scalar.specs.declared.faults.CallStop.{CallStop}
-use Rattle.resin_scalar.specs.declared.faults.CallStop.TheVariants.{Fault as CallFault}
-use Rattle.resin_value.specs.declared.value.Value.{Value}
-use Rattle.resin_value.specs.declared.value.Value.TheVariants.{Null, Bool as Truth, Int, Text, Arr, Obj}
+use Rattle.resin_ops.specs.Under.scalar.declared.faults.ScriptFault.TheVariants.{BadOperand}
+use Rattle.resin_ops.specs.Under.scalar.declared.faults.CallStop.{CallStop}
+use Rattle.resin_ops.specs.Under.scalar.declared.faults.CallStop.TheVariants.{Fault as CallFault}
+use Rattle.resin_ops.specs.Under.value.declared.value.Value.{Value}
+use Rattle.resin_ops.specs.Under.value.declared.value.Value.TheVariants.{Null, Bool as Truth, Int, Text, Arr, Obj}
 use Rattle.resin_machine.specs.State.{State}
 use Rattle.resin_machine.specs.Steps.{Act, faults}
 use Rattle.resin_machine.specs.Variables.{variable, assign, taken_from, without_variable}

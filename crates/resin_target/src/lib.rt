@@ -6,6 +6,7 @@ mod place;
 mod reads;
 mod stores;
 mod targets;
+pub mod under;
 
 pub use path::{Hop, Index, Path};
 pub use place::Place;

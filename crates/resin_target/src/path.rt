@@ -2,8 +2,8 @@
 ghost use Rattle.std.specs.Prelude.{◌≡◌, IfOk};
 ghost use Rattle.resin_target.specs.Paths.{no_postfix, with_index, with_property};
 
-use resin_items::{Items, SharedBytes};
-use resin_value::Value;
+use resin_machine::under::items::{Items, SharedBytes};
+use resin_ops::under::value::Value;
 use std::alloc::{AllocError, Global};
 
 /// An index of a target.

@@ -1,12 +1,12 @@
 //! Where a value stands.
 ghost use Rattle.std.specs.Prelude.{◌≡◌, unwrap_or};
 ghost use Rattle.std.specs.Option.{option_copied};
-ghost use Rattle.resin_value.specs.declared.value.Value.{Value as AnyValue};
+ghost use Rattle.resin_ops.specs.Under.value.declared.value.Value.{Value as AnyValue};
 ghost use Rattle.resin_target.specs.Targets.{standing};
 
-use resin_items::SharedBytes;
 use resin_machine::Machine;
-use resin_value::Value;
+use resin_machine::under::items::SharedBytes;
+use resin_ops::under::value::Value;
 
 /// A variable by its name, or a property by the number of its object and its name.
 #[derive(Drop)]

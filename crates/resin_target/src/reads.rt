@@ -1,15 +1,15 @@
 //! What stands at an index and at a property of a value.
 ghost use Rattle.std.specs.Prelude.{◌≡◌, IfOk, unwrap_or};
 ghost use Rattle.std.specs.Option.{option_copied};
-ghost use Rattle.resin_value.specs.declared.value.Value.{Value as AnyValue};
+ghost use Rattle.resin_ops.specs.Under.value.declared.value.Value.{Value as AnyValue};
 ghost use Rattle.resin_ops.specs.Places.{indexed};
 ghost use Rattle.resin_target.specs.Reads.{GivesOrNoMemory, value_at, byte_of, at_index, field_of, at_property};
 
-use resin_lstr::LText;
 use resin_machine::Machine;
+use resin_ops::under::lstr::LText;
+use resin_ops::under::scalar::{CallStop, ScriptFault};
+use resin_ops::under::value::{Arr, Key, Value};
 use resin_ops::{index_text, to_key};
-use resin_scalar::{CallStop, ScriptFault};
-use resin_value::{Arr, Key, Value};
 use std::alloc::{AllocError, Global};
 
 /// A copy of the value at a key of an array, null where there is none.

@@ -1,10 +1,10 @@
 //! Stores into values, and what stands in them.
 ghost use Rattle.std.specs.Prelude.{◌≡◌, ◌≤◌, IfOk, OnOk, IsTrue, Ok};
-ghost use Rattle.resin_value.specs.Keys.{is_lawful};
-ghost use Rattle.resin_value.specs.Changes.{empty as empty_array};
-ghost use Rattle.resin_value.specs.declared.value.Value.{Value as AnyValue};
-ghost use Rattle.resin_value.specs.Changes.{height_in};
-ghost use Rattle.resin_value.specs.Seen.{tree_of};
+ghost use Rattle.resin_ops.specs.Under.value.Keys.{is_lawful};
+ghost use Rattle.resin_ops.specs.Under.value.Changes.{empty as empty_array};
+ghost use Rattle.resin_ops.specs.Under.value.declared.value.Value.{Value as AnyValue};
+ghost use Rattle.resin_ops.specs.Under.value.Changes.{height_in};
+ghost use Rattle.resin_ops.specs.Under.value.Seen.{tree_of};
 ghost use Rattle.resin_target.specs.Reads.{GivesOrNoMemory, on, value_at as value_in};
 ghost use Rattle.resin_target.specs.Stores as rule;
 ghost use Rattle.resin_target.specs.Heights.{raised_to, height_of};
@@ -12,8 +12,8 @@ ghost use Rattle.resin_target.specs.Heights.{raised_to, height_of};
 use crate::path::Index;
 use crate::reads::value_at;
 use resin_ops::to_key;
-use resin_scalar::{CallStop, ErrorKind, ScriptFault};
-use resin_value::{Arr, ArrFault, Key, MAX_HEIGHT, Value};
+use resin_ops::under::scalar::{CallStop, ErrorKind, ScriptFault};
+use resin_ops::under::value::{Arr, ArrFault, Key, MAX_HEIGHT, Value};
 use std::alloc::{AllocError, Global};
 
 // The key that an index means in an array.

@@ -11,10 +11,10 @@ use crate::path::{Hop, Index, Path};
 use crate::place::{Place, value_at};
 use crate::reads::{at_index, at_property};
 use crate::stores::{erased, erased_height, found, stored, stored_height};
-use resin_items::SharedBytes;
+use resin_machine::under::items::SharedBytes;
 use resin_machine::{Machine, Stop};
-use resin_scalar::{CallStop, ScriptFault};
-use resin_value::Value;
+use resin_ops::under::scalar::{CallStop, ScriptFault};
+use resin_ops::under::value::Value;
 use std::alloc::{AllocError, Global};
 
 // What stands under indices of a place.

@@ -12,6 +12,3 @@ pub use connections::Connections;
 pub use event::TraceEvent;
 pub use laws::{reader_laws, trace_laws};
 pub use reader::{TraceFault, TraceReader};
-
-#[cfg(test)]
-mod tests;

@@ -29,7 +29,7 @@ const LIMIT: usize = 67_108_864;
 #[derive(Drop)]
 pub struct TraceReader {
     alloc: Global,
-    pub(crate) unread: Unread,
+    unread: Unread,
     place: usize,
     over: bool,
 }

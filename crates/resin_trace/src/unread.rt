@@ -10,8 +10,8 @@ use std::marker::Model;
 #[derive(Drop)]
 pub(crate) struct Unread {
     alloc: Global,
-    pub(crate) bytes: Vec<u8>,
-    pub(crate) at: usize,
+    bytes: Vec<u8>,
+    at: usize,
 }
 
 impl Model for Unread {

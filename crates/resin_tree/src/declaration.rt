@@ -10,7 +10,7 @@ use std::alloc::AllocError;
 /// A constant expression: the value of a property or a parameter that is given no other. A `-` before an integer is
 /// part of the number.
 #[cycle(constants)]
-#[derive(Debug, Drop)]
+#[derive(Drop)]
 pub enum Constant {
     Literal(Literal),
     Array(Items<ConstantItem>),
@@ -18,7 +18,7 @@ pub enum Constant {
 
 /// One item of a constant array.
 #[cycle(constants)]
-#[derive(Debug, Drop)]
+#[derive(Drop)]
 pub struct ConstantItem {
     /// What stands before `=>`, where it is written.
     pub key: Option<Constant>,
@@ -26,14 +26,14 @@ pub struct ConstantItem {
 }
 
 /// A parameter, by its name without the `$`.
-#[derive(Debug, Drop)]
+#[derive(Drop)]
 pub struct Parameter {
     pub name: SharedBytes,
     pub default: Option<Constant>,
 }
 
 /// A function or a method. Its parameters and its body are shared, so a copy takes no memory.
-#[derive(Debug, Drop)]
+#[derive(Drop)]
 pub struct Function {
     /// The line of the declaration's first token, from 1.
     pub line: u32,
@@ -44,14 +44,14 @@ pub struct Function {
 }
 
 /// A property, by its name without the `$`.
-#[derive(Debug, Drop)]
+#[derive(Drop)]
 pub struct Property {
     pub name: SharedBytes,
     pub default: Option<Constant>,
 }
 
 /// A class. Its members are shared, so a copy takes no memory.
-#[derive(Debug, Drop)]
+#[derive(Drop)]
 pub struct ClassDecl {
     /// The line of the declaration's first token, from 1.
     pub line: u32,
@@ -65,7 +65,7 @@ pub struct ClassDecl {
 }
 
 /// What stands at the top level of a file.
-#[derive(Debug, Drop)]
+#[derive(Drop)]
 pub enum Item {
     Function(Function),
     Class(ClassDecl),
@@ -73,7 +73,7 @@ pub enum Item {
 }
 
 /// A whole file.
-#[derive(Debug, Drop)]
+#[derive(Drop)]
 pub struct Program {
     pub items: Items<Item>,
 }

@@ -3,7 +3,7 @@
 use resin_items::{Boxed, Items, SharedBytes};
 
 /// The names of constants that stand for a value.
-#[derive(Clone, Copy, Debug, PartialEq, Eq)]
+#[derive(Clone, Copy, PartialEq, Eq)]
 pub enum ConstantName {
     Null,
     True,
@@ -23,7 +23,7 @@ pub enum ConstantName {
 }
 
 /// What a source text spells as a value of its own.
-#[derive(Debug, Drop)]
+#[derive(Drop)]
 pub enum Literal {
     Int(i64),
     /// A text without interpolation, its escapes worked out.
@@ -32,7 +32,7 @@ pub enum Literal {
 }
 
 /// An operator before one operand.
-#[derive(Clone, Copy, Debug, PartialEq, Eq)]
+#[derive(Clone, Copy, PartialEq, Eq)]
 pub enum Unary {
     Minus,
     Plus,
@@ -46,7 +46,7 @@ pub enum Unary {
 }
 
 /// An operator that makes a number or a text of two values. `+=` and its kin use these too.
-#[derive(Clone, Copy, Debug, PartialEq, Eq)]
+#[derive(Clone, Copy, PartialEq, Eq)]
 pub enum Combining {
     Multiply,
     Divide,
@@ -58,7 +58,7 @@ pub enum Combining {
 }
 
 /// An operator that compares two values.
-#[derive(Clone, Copy, Debug, PartialEq, Eq)]
+#[derive(Clone, Copy, PartialEq, Eq)]
 pub enum Comparison {
     Less,
     LessOrEqual,
@@ -77,7 +77,7 @@ pub enum Comparison {
 }
 
 /// The four forms that run another file.
-#[derive(Clone, Copy, Debug, PartialEq, Eq)]
+#[derive(Clone, Copy, PartialEq, Eq)]
 pub enum Import {
     Include,
     IncludeOnce,
@@ -87,7 +87,7 @@ pub enum Import {
 
 /// An expression. Brackets round one leave no trace.
 #[cycle(tree)]
-#[derive(Debug, Drop)]
+#[derive(Drop)]
 pub enum Expr {
     Literal(Literal),
     /// `$v`, by its name without the `$`.
@@ -105,7 +105,7 @@ pub enum Expr {
 
 /// One item of an array.
 #[cycle(tree)]
-#[derive(Debug, Drop)]
+#[derive(Drop)]
 pub struct ArrayItem {
     /// What stands before `=>`, where it is written.
     pub key: Option<Boxed<Expr>>,
@@ -114,7 +114,7 @@ pub struct ArrayItem {
 
 /// A part of a value that is read.
 #[cycle(tree)]
-#[derive(Debug, Drop)]
+#[derive(Drop)]
 pub enum Access {
     /// `a[e]`
     Index(Boxed<Expr>, Boxed<Expr>),
@@ -124,7 +124,7 @@ pub enum Access {
 
 /// An operator whose operands are all evaluated.
 #[cycle(tree)]
-#[derive(Debug, Drop)]
+#[derive(Drop)]
 pub enum Operation {
     Unary(Unary, Boxed<Expr>),
     Combine(Combining, Boxed<Expr>, Boxed<Expr>),
@@ -135,7 +135,7 @@ pub enum Operation {
 
 /// A form that evaluates only what it needs, or asks whether a value is there.
 #[cycle(tree)]
-#[derive(Debug, Drop)]
+#[derive(Drop)]
 pub enum Test {
     /// `a && b`
     And(Boxed<Expr>, Boxed<Expr>),
@@ -155,7 +155,7 @@ pub enum Test {
 
 /// What is assigned to, or unset: a variable and the postfixes behind it, from the left.
 #[cycle(tree)]
-#[derive(Debug, Drop)]
+#[derive(Drop)]
 pub struct Target {
     pub variable: SharedBytes,
     pub path: Items<PathStep>,
@@ -163,7 +163,7 @@ pub struct Target {
 
 /// One postfix of a target.
 #[cycle(tree)]
-#[derive(Debug, Drop)]
+#[derive(Drop)]
 pub enum PathStep {
     /// `[e]`
     Index(Boxed<Expr>),
@@ -175,7 +175,7 @@ pub enum PathStep {
 
 /// A form that writes to a target.
 #[cycle(tree)]
-#[derive(Debug, Drop)]
+#[derive(Drop)]
 pub enum Assignment {
     /// `t = e`
     Assign(Target, Boxed<Expr>),
@@ -195,7 +195,7 @@ pub enum Assignment {
 
 /// A form that runs code of another place.
 #[cycle(tree)]
-#[derive(Debug, Drop)]
+#[derive(Drop)]
 pub enum Call {
     /// `f(args)`, by the name as it is written.
     Function(SharedBytes, Items<Expr>),

@@ -4,7 +4,7 @@ use crate::expression::{Expr, Target};
 use resin_items::{Boxed, Items, SharedBytes};
 
 /// A statement that holds no other.
-#[derive(Debug, Drop)]
+#[derive(Drop)]
 pub enum Simple {
     /// Text outside code.
     Inline(SharedBytes),
@@ -28,7 +28,7 @@ pub enum Simple {
 
 /// A statement, and the line of its first token, from 1.
 #[cycle(stmts)]
-#[derive(Debug, Drop)]
+#[derive(Drop)]
 pub struct Stmt {
     pub line: u32,
     pub kind: StmtKind,
@@ -36,7 +36,7 @@ pub struct Stmt {
 
 /// A statement without its line.
 #[cycle(stmts)]
-#[derive(Debug, Drop)]
+#[derive(Drop)]
 pub enum StmtKind {
     Simple(Simple),
     /// `{ s.. }`, and `;`, which holds nothing.
@@ -52,7 +52,7 @@ pub enum StmtKind {
 
 /// A condition of an `if`, and what runs where it is the first that holds.
 #[cycle(stmts)]
-#[derive(Debug, Drop)]
+#[derive(Drop)]
 pub struct Branch {
     pub condition: Expr,
     pub body: Boxed<Stmt>,
@@ -60,7 +60,7 @@ pub struct Branch {
 
 /// A loop.
 #[cycle(stmts)]
-#[derive(Debug, Drop)]
+#[derive(Drop)]
 pub enum Loop {
     /// `while (e) s`
     While(Expr, Boxed<Stmt>),
@@ -74,7 +74,7 @@ pub enum Loop {
 
 /// A `case e:`, or `default:`, which has no condition.
 #[cycle(stmts)]
-#[derive(Debug, Drop)]
+#[derive(Drop)]
 pub struct Case {
     pub condition: Option<Expr>,
     pub statements: Items<Stmt>,
@@ -82,7 +82,7 @@ pub struct Case {
 
 /// `catch (A | B $e) { .. }`: the classes, the variable, where it is written, and the statements.
 #[cycle(stmts)]
-#[derive(Debug, Drop)]
+#[derive(Drop)]
 pub struct Catch {
     pub classes: Items<SharedBytes>,
     pub variable: Option<SharedBytes>,

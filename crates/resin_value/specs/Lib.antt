@@ -7,3 +7,4 @@ pub mod Changes
 pub mod Compare
 pub mod Values
 pub mod Laws
+pub mod Under

@@ -5,6 +5,7 @@ mod compare;
 mod key;
 mod laws;
 mod lists;
+pub mod under;
 mod value;
 
 pub use compare::{CompareFault, equal, identical, order};

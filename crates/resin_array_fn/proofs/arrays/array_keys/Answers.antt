@@ -1,10 +1,10 @@
 use Rattle.std.proofs.Common.{◌+◌, drop}
 use Rattle.std.specs.Prelude.{map, None}
 use Rattle.std.proofs.lemmas.Result.{err_from_is_err_and}
-use Rattle.resin_value.specs.Seen.{tree_of}
-use Rattle.resin_value.specs.declared.key.Key.{Key}
-use Rattle.resin_value.specs.Trees.{Tree}
-use Rattle.resin_value.proofs.Compared.{drop_at}
+use Rattle.resin_ops.specs.Under.value.Seen.{tree_of}
+use Rattle.resin_ops.specs.Under.value.declared.key.Key.{Key}
+use Rattle.resin_ops.specs.Under.value.Trees.{Tree}
+use Rattle.resin_ops.proofs.value_lemmas.Compared.{drop_at}
 use Rattle.resin_array_fn.specs.Filled.{in_order}
 use Rattle.resin_array_fn.specs.Rows.{key_value, array_keys}
 use Rattle.resin_array_fn.proofs.Fills.{addition_stops, addition_goes, listed_front}

@@ -1,8 +1,8 @@
 use Rattle.std.proofs.Common.{◌+◌, false, List, Ok, drop, sym, ap, ◌∙◌}
 use Rattle.std.proofs.lemmas.Result.{err_from_is_err_and}
-use Rattle.resin_value.specs.declared.value.Value.{Value}
-use Rattle.resin_value.specs.Seen.{tree_of, trees_of}
-use Rattle.resin_value.specs.Arrays.{EntryList, entries_of-row_of}
+use Rattle.resin_ops.specs.Under.value.declared.value.Value.{Value}
+use Rattle.resin_ops.specs.Under.value.Seen.{tree_of, trees_of}
+use Rattle.resin_ops.specs.Under.value.Arrays.{EntryList, entries_of-row_of}
 use Rattle.resin_text_fn.proofs.Joins.{rest_more}
 use Rattle.resin_array_fn.specs.Filled.{filled_on, with_kept_keys}
 use Rattle.resin_array_fn.specs.Rows.{merged_on, array_merge, entries_in}

@@ -1,5 +1,5 @@
 use Rattle.std.proofs.Common.{◌≡◌, drop}
-use Rattle.resin_value.specs.Seen.{trees_of}
+use Rattle.resin_ops.specs.Under.value.Seen.{trees_of}
 use Rattle.resin_array_fn.specs.Rows.{merged_on, array_merge}
 use Rattle.resin_array_fn.proofs.arrays.array_merge.Given as goal
 

@@ -1,7 +1,7 @@
 use Rattle.std.proofs.Common.{◌≡◌, ◌+◌, ◌-◌, take, ap, arith}
 use Rattle.std.specs.Prelude.{reverse}
 use Rattle.std.proofs.lemmas.Result.{err_from_is_err_and}
-use Rattle.resin_value.specs.Seen.{tree_of}
+use Rattle.resin_ops.specs.Under.value.Seen.{tree_of}
 use Rattle.resin_array_fn.specs.Filled.{kept_key, with_kept_keys}
 use Rattle.resin_array_fn.specs.Rows.{array_reverse}
 use Rattle.resin_array_fn.proofs.Fills.{addition_stops, addition_goes, kept_front, backwards_more, lawful_at}

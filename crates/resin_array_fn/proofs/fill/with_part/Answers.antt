@@ -1,7 +1,7 @@
 use Rattle.std.proofs.Common.{◌+◌, ap}
 use Rattle.std.specs.List.{slice_range}
 use Rattle.std.proofs.lemmas.Result.{err_from_is_err_and}
-use Rattle.resin_value.specs.Seen.{tree_of}
+use Rattle.resin_ops.specs.Under.value.Seen.{tree_of}
 use Rattle.resin_array_fn.specs.Filled.{kept_key, filled_on, with_kept_keys}
 use Rattle.resin_array_fn.proofs.Fills.{addition_stops, addition_goes, kept_front, slice_more, lawful_at}
 use Rattle.resin_array_fn.proofs.fill.with_part.Goals as goal

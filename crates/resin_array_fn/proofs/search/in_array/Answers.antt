@@ -1,6 +1,6 @@
 use Rattle.std.proofs.Common.{true, false, Ok, sym, ap, ◌∙◌}
 use Rattle.std.proofs.lemmas.Result.{err_from_is_err_and}
-use Rattle.resin_value.specs.Seen.{tree_of}
+use Rattle.resin_ops.specs.Under.value.Seen.{tree_of}
 use Rattle.resin_array_fn.proofs.Fills.{search_turn}
 use Rattle.resin_array_fn.proofs.search.in_array.Goals as goal
 

@@ -1,5 +1,5 @@
 use Rattle.std.proofs.Common.{◌≡◌, drop}
-use Rattle.resin_value.specs.Seen.{tree_of}
+use Rattle.resin_ops.specs.Under.value.Seen.{tree_of}
 use Rattle.resin_array_fn.specs.Searches.{holds, in_array}
 use Rattle.resin_array_fn.proofs.search.in_array.Given as goal
 

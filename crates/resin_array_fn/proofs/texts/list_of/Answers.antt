@@ -1,7 +1,7 @@
 use Rattle.std.proofs.Common.{◌+◌, drop, ap}
 use Rattle.std.specs.Prelude.{map, None}
 use Rattle.std.proofs.lemmas.Result.{err_from_is_err_and}
-use Rattle.resin_value.specs.Trees.{text}
+use Rattle.resin_ops.specs.Under.value.Trees.{text}
 use Rattle.resin_text_fn.proofs.Joins.{rest_more}
 use Rattle.resin_array_fn.specs.Filled.{in_order}
 use Rattle.resin_array_fn.specs.Rows.{list_of_texts}

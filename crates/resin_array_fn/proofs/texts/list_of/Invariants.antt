@@ -1,6 +1,6 @@
 use Rattle.std.proofs.Common.{◌≡◌, drop}
 use Rattle.std.specs.Prelude.{map}
-use Rattle.resin_value.specs.Trees.{text}
+use Rattle.resin_ops.specs.Under.value.Trees.{text}
 use Rattle.resin_array_fn.specs.Filled.{filled_on, in_order}
 use Rattle.resin_array_fn.specs.Rows.{list_of_texts}
 use Rattle.resin_array_fn.proofs.texts.list_of.Given as goal

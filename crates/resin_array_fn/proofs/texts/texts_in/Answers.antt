@@ -1,9 +1,9 @@
 use Rattle.std.proofs.Common.{◌+◌, ◌++◌, Ok, drop, sym, ap, ◌∙◌}
 use Rattle.std.specs.Prelude.{map}
 use Rattle.std.proofs.lemmas.Result.{err_from_is_err_and}
-use Rattle.resin_value.specs.Seen.{tree_of}
-use Rattle.resin_value.specs.Arrays.{EntryList}
-use Rattle.resin_value.proofs.Compared.{drop_at}
+use Rattle.resin_ops.specs.Under.value.Seen.{tree_of}
+use Rattle.resin_ops.specs.Under.value.Arrays.{EntryList}
+use Rattle.resin_ops.proofs.value_lemmas.Compared.{drop_at}
 use Rattle.resin_array_fn.specs.Filled.{and_then}
 use Rattle.resin_array_fn.specs.Rows.{values, texts_in}
 use Rattle.resin_array_fn.proofs.Fills.{text_stops, text_goes}

@@ -1,6 +1,6 @@
 use Rattle.std.proofs.Common.{◌≡◌, ◌+◌, drop}
 use Rattle.std.specs.Prelude.{sum_by}
-use Rattle.resin_value.specs.Seen.{trees_of}
+use Rattle.resin_array_fn.specs.Under.value.Seen.{trees_of}
 use Rattle.resin_builtin.specs.Calls.{cost}
 use Rattle.resin_builtin.proofs.calls.pay.Given as goal
 

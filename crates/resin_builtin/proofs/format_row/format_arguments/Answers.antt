@@ -1,5 +1,5 @@
 use Rattle.std.proofs.Common.{drop}
-use Rattle.resin_value.specs.Seen.{trees_of}
+use Rattle.resin_array_fn.specs.Under.value.Seen.{trees_of}
 use Rattle.resin_builtin.specs.Rows.{format_arguments}
 use Rattle.resin_builtin.proofs.Read.{argument_ends, none_left}
 use Rattle.resin_builtin.proofs.format_row.format_arguments.Goals as goal

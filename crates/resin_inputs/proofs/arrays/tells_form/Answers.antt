@@ -3,7 +3,7 @@ use Rattle.std.specs.Prelude.{codes}
 use Rattle.std.specs.Option.{option_map}
 use Rattle.std.proofs.lemmas.Iterator.{YieldsList-from_slice}
 use Rattle.std.proofs.lemmas.Iterator.Search.{find_from_yields_List}
-use Rattle.resin_bytes.specs.declared.header.Header.{Header}
+use Rattle.resin_value.specs.Under.bytes.declared.header.Header.{Header}
 use Rattle.resin_inputs.specs.Names.{is_named}
 use Rattle.resin_inputs.specs.Inputs.{is_form, is_form_field}
 use Rattle.resin_inputs.proofs.arrays.tells_form.Goals as goal

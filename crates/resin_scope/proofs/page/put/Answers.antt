@@ -2,7 +2,7 @@ use Rattle.std.proofs.Common.{◌≡◌, false, sym, ap, ◌∙◌}
 use Rattle.std.specs.Prelude.{◌&&◌}
 use Rattle.std.specs.List.{list_any}
 use Rattle.std.proofs.lemmas.Result.{on_ok_weaker}
-use Rattle.resin_bytes.specs.declared.header.Header.{Header}
+use Rattle.resin_value.specs.Under.bytes.declared.header.Header.{Header}
 use Rattle.resin_scope.specs.Pages.{is_same_name}
 use Rattle.resin_scope.proofs.PageLemmas.{put_last}
 use Rattle.resin_scope.proofs.page.put.Goals as goal

@@ -79,7 +79,7 @@ returns-in-Ok-Refuse-clause-ran g c = λ place K k.
     let so_far = rw (sym same) at c.answers.invariant.so_far in
     let s = c.serve_refusal.ensures in
     let t = refuse_at _ _ _ _ (ap (λ l. stream_of (at l c.args.conn)) (sym same)) f c.refuse.ensures.here in
-    line_last _ _ _ _ _ _ _ _ _ _ _ _ _ _ so_far t.0 t.1 place K (s.ran place c.args.run.now.site K _) (subst (λ (x : Calls). Later x.made x.failed K) s.same.2 k)
+    line_last _ _ _ _ _ _ _ _ _ _ _ _ _ _ so_far t.0 t.1 place K (s.ran place c.args.run.now.site K _ _) (subst (λ (x : Calls). Later x.made x.failed K) s.same.2 k)
 
 pub returns-in-Ok-Refuse-clause-line : goal.returns-in-Ok-Refuse-clause-line
 returns-in-Ok-Refuse-clause-line g c =

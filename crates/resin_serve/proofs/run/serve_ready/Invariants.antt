@@ -2,7 +2,7 @@
 use Rattle.std.proofs.Common.{◌≡◌, ℕ, List, length}
 use Rattle.resin_base.specs.Numbering.{AreNumbered}
 use Rattle.resin_trace.specs.declared.event.TraceEvent.{TraceEvent}
-use Rattle.resin_site.specs.Keeping.{store_of}
+use Rattle.resin_site.specs.Keeping.{answers, store_of}
 use Rattle.resin_serve.specs.declared.give.Given.TheVariants.{Whole}
 use Rattle.resin_serve.specs.Ran.{world}
 use Rattle.resin_serve.specs.Gives.{CausedIn, counts, sinks}
@@ -23,8 +23,8 @@ invariant-records g l = record {
       (sinks (counts (g.L.Sink.faults l.log) (g.L.Sink.stalls l.log)) (counts (g.M.Sink.faults l.mail) (g.M.Sink.stalls l.mail)) (counts (g.O.Sink.faults l.out) (g.O.Sink.stalls l.out)));
   so_far : (seen : List TraceEvent) (b : ℕ) → Hold l.fn.run.connections seen → Beyond b l.fn.reader
       → WentOn Whole (meaning l.fn.run.site) b seen l.fn.reader l.reader l.fn.run.number l.run.number l.run.calls.made l.run.calls.failed l.run.connections
-      (world (g.L.Sink.written l.fn.log) (g.M.Sink.written l.fn.mail) (g.O.Sink.written l.fn.out) (store_of (g.F.Files.stored l.fn.files) (g.T.Tables.stored l.fn.tables)) l.fn.run.calls.made)
-      (world (g.L.Sink.written l.log) (g.M.Sink.written l.mail) (g.O.Sink.written l.out) (store_of (g.F.Files.stored l.files) (g.T.Tables.stored l.tables)) l.run.calls.made);
+      (world (g.L.Sink.written l.fn.log) (g.M.Sink.written l.fn.mail) (g.O.Sink.written l.fn.out) (store_of (g.F.Files.stored l.fn.files) (g.T.Tables.stored l.fn.tables)) (answers (g.F.Files.answers l.fn.files) (g.T.Tables.answers l.fn.tables)) l.fn.run.calls.made)
+      (world (g.L.Sink.written l.log) (g.M.Sink.written l.mail) (g.O.Sink.written l.out) (store_of (g.F.Files.stored l.files) (g.T.Tables.stored l.tables)) (answers (g.F.Files.answers l.files) (g.T.Tables.answers l.tables)) l.run.calls.made);
 }
 
 abbrev pub decreases-records : goal.decreases-records

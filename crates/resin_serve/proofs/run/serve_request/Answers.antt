@@ -1,6 +1,6 @@
 use Rattle.std.proofs.Common.{refl, sym, ap, subst, ◌∙◌}
 use Rattle.resin_base.specs.declared.calls.Calls.{Calls}
-use Rattle.resin_site.specs.Keeping.{Later, store_of}
+use Rattle.resin_site.specs.Keeping.{Later, answers, store_of}
 use Rattle.resin_serve.specs.Ran.{world}
 use Rattle.resin_serve.specs.Kept.{Kept, keepers}
 use Rattle.resin_base.specs.Numbering.{AreNumbered}
@@ -14,7 +14,7 @@ returns-in_default-clause-kept g c =
     request_kept _ _ _ _ _ _ _ _ _ _ _ _ c.requires e.blames e.counted e.told
 
 pub returns-in_default-clause-ran : goal.returns-in_default-clause-ran
-returns-in_default-clause-ran g c = λ place K k. ran_amid _ _ _ K _ _ place _ c.in_default.field-0 _ _ refl refl refl (c.in_default.ensures.served K k)
+returns-in_default-clause-ran g c = λ place K k. ran_amid _ _ K _ _ _ place _ c.in_default.field-0 _ _ refl refl refl (c.in_default.ensures.served K k) k
 
 pub returns-in-NotYet-clause-kept : goal.returns-in-NotYet-clause-kept
 returns-in-NotYet-clause-kept g c =
@@ -22,7 +22,7 @@ returns-in-NotYet-clause-kept g c =
     request_kept _ _ _ _ _ _ _ _ _ _ _ _ c.requires e.blames e.counted e.told
 
 pub returns-in-NotYet-clause-ran : goal.returns-in-NotYet-clause-ran
-returns-in-NotYet-clause-ran g c = λ place K k. ran_met _ _ _ K _ _ place _ c.in-Ok.outcome _ _ refl refl refl c.in-NotYet.is (c.in-Ok.ensures.served K k)
+returns-in-NotYet-clause-ran g c = λ place K k. ran_met _ _ K _ _ _ place _ c.in-Ok.outcome _ _ refl refl refl c.in-NotYet.is (c.in-Ok.ensures.served K k) k
 
 pub returns : goal.returns
 returns g c =
@@ -34,10 +34,11 @@ returns g c =
       kept = subst (λ (x : Calls). Kept (keepers c.args.run.now.calls.made c.args.run.now.calls.failed (g.F.Files.answers c.args.files.now) (g.F.Files.faults c.args.files.now) (g.T.Tables.answers c.args.tables.now) (g.T.Tables.faults c.args.tables.now))
           (keepers x.made x.failed (g.F.Files.answers c.serve_one-served.new.files) (g.F.Files.faults c.serve_one-served.new.files) (g.T.Tables.answers c.serve_one-served.new.tables) (g.T.Tables.faults c.serve_one-served.new.tables))) (sym e.same.2)
           (request_kept _ _ _ _ _ _ _ _ _ _ _ _ c.requires s.blames s.counted s.told);
-      ran = λ place K k. ran_gave _ _ _ _ K _ _ place _ c.in-Ok.outcome _
-          (world (g.L.Sink.written c.args.log.now) (g.M.Sink.written c.args.mail.now) (g.O.Sink.written c.args.out.now) (store_of (g.F.Files.stored c.serve_one-served.new.files) (g.T.Tables.stored c.serve_one-served.new.tables)) c.serve_one-served.new.calls.made)
-          _ refl c.in-Ok.ensures.lawful (e.gave _ _ _ _)
-          (c.in-Ok.ensures.served K (subst (λ (x : Calls). Later x.made x.failed K) e.same.2 k)) refl (ap (λ (x : Calls). x.made) e.same.2);
+      ran = λ place K k. ran_gave _ _ _ K _ _ _ place _ c.in-Ok.outcome _
+          (world (g.L.Sink.written c.args.log.now) (g.M.Sink.written c.args.mail.now) (g.O.Sink.written c.args.out.now) (store_of (g.F.Files.stored c.serve_one-served.new.files) (g.T.Tables.stored c.serve_one-served.new.tables)) (answers (g.F.Files.answers c.serve_one-served.new.files) (g.T.Tables.answers c.serve_one-served.new.tables)) c.serve_one-served.new.calls.made)
+          _ refl c.in-Ok.ensures.lawful (e.gave _ _ _ _ _ _)
+          (c.in-Ok.ensures.served K (subst (λ (x : Calls). Later x.made x.failed K) e.same.2 k)) refl refl (ap (λ (x : Calls). x.made) e.same.2)
+          (subst (λ (x : Calls). Later c.give_outcome.new.run.calls.made x.failed K) e.same.2 k);
       number = e.number;
       cause = e.cause;
     }

@@ -8,20 +8,20 @@ pub returns-in_default-clause-kept : goal.returns-in_default-clause-kept
 returns-in_default-clause-kept g c = kept_new _ _ _ _ _ c.new.ensures
 
 pub returns-in_default-new-clause-run : goal.returns-in_default-new-clause-run
-returns-in_default-new-clause-run g c = λ fuel taken left f p q. runs_nothing _ _ taken left _
+returns-in_default-new-clause-run g c = λ fuel all f p. runs_nothing _ _ all _ _ p
 
 pub returns-in_default-new-clause-kept : goal.returns-in_default-new-clause-kept
 returns-in_default-new-clause-kept g c = kept_new _ _ _ _ _ c.new.ensures
 
 pub returns-clause-run : goal.returns-clause-run
-returns-clause-run g c = λ fuel taken left f p q.
-    runs_with _ _ fuel _ taken left _ _ (c.in-Ok.ensures ∙ some_same _ _ (c.in-Some.ensures ∙ f)) (c.serve_trace-status.ensures.ran _ taken left (later_self _ _) p q)
+returns-clause-run g c = λ fuel all f p.
+    runs_with _ _ fuel _ all _ _ _ (c.in-Ok.ensures ∙ some_same _ _ (c.in-Some.ensures ∙ f)) (c.serve_trace-status.ensures.ran _ all (later_self _ _) p)
 
 pub returns-clause-numbered : goal.returns-clause-numbered
 returns-clause-numbered g c = numbered _ _ c.serve_trace-status.ensures.kept refl c.new.ensures
 
 pub returns-clause-complete : goal.returns-clause-complete
-returns-clause-complete g c = λ fuel taken left f p q good calm. (
-  completes _ _ _ taken left _ _ _ _ _ _ _ _ (c.serve_trace-status.ensures.ran _ taken left (later_self _ _) p q) good c.serve_trace-status.ensures.cause c.serve_trace-status.ensures.read calm,
+returns-clause-complete g c = λ fuel all f p good calm. (
+  completes _ _ _ all _ _ _ _ _ _ _ _ _ (c.serve_trace-status.ensures.ran _ all (later_self _ _) p).runs good c.serve_trace-status.ensures.cause c.serve_trace-status.ensures.read calm,
   no_fails _ _ c.serve_trace-status.ensures.kept c.new.ensures calm.files_stay calm.tables_stay,
 )

@@ -1,7 +1,7 @@
 -- The records of what was taken so far were read, and their answers were served.
 use Rattle.std.proofs.Common.{◌≡◌, length}
 use Rattle.resin_base.specs.Numbering.{AreNumbered}
-use Rattle.resin_site.specs.Keeping.{store_of}
+use Rattle.resin_site.specs.Keeping.{answers, store_of}
 use Rattle.resin_serve.specs.declared.give.Given.TheVariants.{Whole}
 use Rattle.resin_serve.specs.Ran.{world}
 use Rattle.resin_serve.specs.Gives.{CausedIn, counts, sinks}
@@ -23,8 +23,8 @@ invariant-reads g l = record {
       (sinks (counts (g.L.Sink.faults l.fn.log) (g.L.Sink.stalls l.fn.log)) (counts (g.M.Sink.faults l.fn.mail) (g.M.Sink.stalls l.fn.mail)) (counts (g.O.Sink.faults l.fn.out) (g.O.Sink.stalls l.fn.out)))
       (sinks (counts (g.L.Sink.faults l.log) (g.L.Sink.stalls l.log)) (counts (g.M.Sink.faults l.mail) (g.M.Sink.stalls l.mail)) (counts (g.O.Sink.faults l.out) (g.O.Sink.stalls l.out)));
   so_far : RunsSo (meaning l.fn.run.site) (g.S.Source.left l.fn.trace) (g.S.Source.left l.trace) l.reader l.run.number l.run.calls.made l.run.calls.failed l.run.connections
-      (world (g.L.Sink.written l.fn.log) (g.M.Sink.written l.fn.mail) (g.O.Sink.written l.fn.out) (store_of (g.F.Files.stored l.fn.files) (g.T.Tables.stored l.fn.tables)) l.fn.run.calls.made)
-      (world (g.L.Sink.written l.log) (g.M.Sink.written l.mail) (g.O.Sink.written l.out) (store_of (g.F.Files.stored l.files) (g.T.Tables.stored l.tables)) l.run.calls.made);
+      (world (g.L.Sink.written l.fn.log) (g.M.Sink.written l.fn.mail) (g.O.Sink.written l.fn.out) (store_of (g.F.Files.stored l.fn.files) (g.T.Tables.stored l.fn.tables)) (answers (g.F.Files.answers l.fn.files) (g.T.Tables.answers l.fn.tables)) l.fn.run.calls.made)
+      (world (g.L.Sink.written l.log) (g.M.Sink.written l.mail) (g.O.Sink.written l.out) (store_of (g.F.Files.stored l.files) (g.T.Tables.stored l.tables)) (answers (g.F.Files.answers l.files) (g.T.Tables.answers l.tables)) l.run.calls.made);
 }
 
 abbrev pub decreases-reads : goal.decreases-reads

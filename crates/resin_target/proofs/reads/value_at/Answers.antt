@@ -1,6 +1,6 @@
 use Rattle.std.proofs.Common.{sym, subst, IfOk, ◌≡◌}
-use Rattle.resin_value.specs.declared.value.Value.{Value}
-use Rattle.resin_target.proofs.Under.{value_there, if_ok}
+use Rattle.resin_ops.specs.Under.value.declared.value.Value.{Value}
+use Rattle.resin_target.proofs.Indexed.{value_there, if_ok}
 use Rattle.resin_target.proofs.reads.value_at.Goals as goal
 
 pub returns-in-Some : goal.returns-in-Some

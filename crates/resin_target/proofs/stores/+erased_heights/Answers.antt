@@ -1,9 +1,9 @@
 use Rattle.std.proofs.Common.{ap, sym, subst, ◌∙◌, ℕ, Result, is_some}
-use Rattle.resin_scalar.specs.declared.faults.CallStop.{CallStop}
+use Rattle.resin_ops.specs.Under.scalar.declared.faults.CallStop.{CallStop}
 use Rattle.resin_target.specs.Reads.{GivesOrNoMemory, on}
 use Rattle.resin_target.specs.Stores.{erased, changed_at}
 use Rattle.resin_target.specs.Heights.{height_of, raised_to}
-use Rattle.resin_target.proofs.Under.{value_there, height_changed, changed_more, gives_as, not_empty}
+use Rattle.resin_target.proofs.Indexed.{value_there, height_changed, changed_more, gives_as, not_empty}
 use Rattle.resin_target.proofs.stores.+erased_heights.Goals as goal
 
 pub height_without-returns-in-Some : goal.height_without-returns-in-Some

@@ -1,6 +1,6 @@
 use Rattle.std.proofs.Common.{ap, ◌∙◌}
 use Rattle.resin_target.specs.Stores.{found}
-use Rattle.resin_target.proofs.Under.{found_null, gives_as, value_there, value_missing}
+use Rattle.resin_target.proofs.Indexed.{found_null, gives_as, value_there, value_missing}
 use Rattle.resin_target.proofs.stores.+finding.Goals as goal
 
 pub found_below-returns-in-Some : goal.found_below-returns-in-Some

@@ -1,8 +1,8 @@
 use Rattle.std.proofs.Common.{refl, sym, ap, ◌∙◌, Option, unwrap_or}
 use Rattle.resin_machine.specs.State.{State}
 use Rattle.resin_heap.specs.Objects.{field, fields_at}
-use Rattle.resin_value.specs.declared.value.Value.{Value}
-use Rattle.resin_value.specs.declared.value.Value.TheVariants.{Null}
+use Rattle.resin_heap.specs.Under.value.declared.value.Value.{Value}
+use Rattle.resin_heap.specs.Under.value.declared.value.Value.TheVariants.{Null}
 use Rattle.resin_machine.proofs.Object_steps.{field_read}
 use Rattle.resin_machine.proofs.Taken.{object_missing, lost}
 use Rattle.resin_machine.proofs.machine.Machine.read_field.Goals as goal

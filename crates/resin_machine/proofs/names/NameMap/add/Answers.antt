@@ -1,6 +1,6 @@
 use Rattle.std.proofs.Common.{◌∙◌}
 use Rattle.std.specs.FinMap.{insert}
-use Rattle.resin_scope.proofs.NameLemmas.{inserted}
+use Rattle.resin_stage.proofs.scope_lemmas.NameLemmas.{inserted}
 use Rattle.resin_machine.proofs.names.NameMap.add.Goals as goal
 
 pub returns-clause-ok : goal.returns-clause-ok

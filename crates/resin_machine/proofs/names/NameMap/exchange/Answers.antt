@@ -2,7 +2,7 @@ use Rattle.std.proofs.Common.{Some, IsTrue, ap, sym, subst, ◌∙◌, true≢fa
 use Rattle.std.specs.Prelude.{is_some}
 use Rattle.std.specs.Option.{option_copied_mut}
 use Rattle.std.specs.FinMap.{get, insert}
-use Rattle.resin_scope.proofs.NameLemmas.{get-by_bytes, inserted}
+use Rattle.resin_stage.proofs.scope_lemmas.NameLemmas.{get-by_bytes, inserted}
 use Rattle.resin_machine.proofs.names.NameMap.exchange.Goals as goal
 
 pub unreachable-requires : goal.unreachable-requires

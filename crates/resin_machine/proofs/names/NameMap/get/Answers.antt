@@ -1,6 +1,6 @@
 use Rattle.std.proofs.Common.{ap, sym, ◌∙◌}
 use Rattle.std.specs.FinMap.{get}
-use Rattle.resin_scope.proofs.NameLemmas.{get-by_bytes}
+use Rattle.resin_stage.proofs.scope_lemmas.NameLemmas.{get-by_bytes}
 use Rattle.resin_machine.proofs.names.NameMap.get.Goals as goal
 
 pub returns : goal.returns

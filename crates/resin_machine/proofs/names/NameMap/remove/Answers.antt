@@ -1,6 +1,6 @@
 use Rattle.std.proofs.Common.{ap, ◌∙◌}
 use Rattle.std.specs.FinMap.{remove}
-use Rattle.resin_scope.proofs.NameLemmas.{removed}
+use Rattle.resin_stage.proofs.scope_lemmas.NameLemmas.{removed}
 use Rattle.resin_machine.proofs.names.NameMap.remove.Goals as goal
 
 pub returns : goal.returns

@@ -1,5 +1,5 @@
 use Rattle.std.proofs.Common.{◌≡◌, ap, subst, sym, ◌∙◌, ◌<◌, length, List}
-use Rattle.resin_lstr.specs.Texts.{Text}
+use Rattle.resin_scope.specs.Under.lstr.Texts.{Text}
 use Rattle.resin_stage.proofs.Innermost.{joins_last}
 use Rattle.resin_stage.proofs.buffers.Buffers.append.Goals as goal
 

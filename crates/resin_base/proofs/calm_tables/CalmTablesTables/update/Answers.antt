@@ -1,7 +1,0 @@
-use Rattle.resin_base.proofs.Wholeness.{whole-update, whole-call}
-use Rattle.resin_base.proofs.calm_tables.CalmTablesTables.update.Goals as goal
-
-pub invariant_of-self-inside : goal.invariant_of-self-inside
-invariant_of-self-inside c =
-    let was = c.self.inside.whole in
-    (whole-call c.update.result c.self.inside.tables c.update.new.self _ c.update.ensures.ok c.update.ensures.err was (whole-update c.self.inside.tables c.args.name.now c.args.row c.args.cells.now was), tt)

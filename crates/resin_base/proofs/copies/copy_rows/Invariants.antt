@@ -1,6 +1,0 @@
--- The rows before the index are copied.
-use Rattle.std.proofs.Common.{◌≡◌, take}
-use Rattle.resin_base.proofs.copies.copy_rows.Given as goal
-
-abbrev pub invariant-loop-row : goal.invariant-loop-row
-invariant-loop-row l = l.copy ≡ take l.row-index l.row-items

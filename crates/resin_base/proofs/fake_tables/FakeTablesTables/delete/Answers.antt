@@ -1,6 +1,0 @@
-use Rattle.resin_base.proofs.Wholeness.{whole-delete}
-use Rattle.resin_base.proofs.fake_tables.FakeTablesTables.delete.Goals as goal
-
-pub invariant_of-self-inside-2 : goal.invariant_of-self-inside-2
-invariant_of-self-inside-2 c =
-    (rw c.delete-answer.ensures.out (whole-delete c.self.inside.tables c.args.name.now c.args.row c.self.inside.whole), tt)

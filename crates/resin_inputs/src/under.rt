@@ -1,0 +1,4 @@
+//! What this crate stands on, passed on to the crates above, which list this one alone.
+
+pub use resin_value as value;
+pub use resin_value::under::{bytes, lstr, scalar};

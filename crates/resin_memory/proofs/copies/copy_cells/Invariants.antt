@@ -1,0 +1,6 @@
+-- The cells before the index are copied.
+use Rattle.std.proofs.Common.{◌≡◌, take}
+use Rattle.resin_memory.proofs.copies.copy_cells.Given as goal
+
+abbrev pub invariant-loop-cell : goal.invariant-loop-cell
+invariant-loop-cell l = l.copy ≡ take l.cell-index l.cell-items

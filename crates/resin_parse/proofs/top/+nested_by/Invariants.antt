@@ -1,4 +1,0 @@
-use Rattle.resin_parse.proofs.top.+nested_by.Given as goal
-
-abbrev pub decreases-nested_by : goal.decreases-nested_by
-decreases-nested_by l = l.reader.depth

@@ -1,0 +1,12 @@
+use Rattle.std.proofs.Common.{◌≡◌, length}
+use Rattle.resin_program_grammar.specs.Statements as spec
+use Rattle.resin_program_grammar.specs.Reading.{under}
+use Rattle.resin_parse_plain.specs.Lines.{line_in}
+use Rattle.resin_parse_statement.proofs.parser.Parser.more_catches.Given as goal
+
+-- what is still to be read comes to what the whole loop does
+abbrev pub invariant-turns : goal.invariant-turns
+invariant-turns g l = under (line_in l.self.reader.lines.now) l.self.reader.depth (spec.more_catches l.in_loop l.catches) l.tokens ≡ under (line_in l.self.reader.lines.now) l.self.reader.depth (spec.more_catches l.in_loop l.initial.catches) l.initial.tokens
+
+abbrev pub decreases-turns : goal.decreases-turns
+decreases-turns g l = length l.tokens

@@ -1,0 +1,6 @@
+use Rattle.resin_program_grammar.specs.Names.{Part}
+use Rattle.resin_parse_statement.proofs.Opened.{opened_at}
+use Rattle.resin_parse_statement.proofs.parser.Parser.part_inside.Goals as goal
+
+pub returns : goal.returns
+returns g c = opened_at c.args.self.now.reader.lines.now c.inside.result.reader.lines.now c.args.self.now.reader.depth c.inside.result.reader.depth (Part c.args.in_loop c.args.chain c.args.test c.args.line) c.args.tokens.now c.part.new.tokens c.part.result c.inside.ensures.lines c.inside.ensures.depth c.part.ensures

@@ -1,0 +1,5 @@
+pub mod Conditions
+pub mod Statements
+pub mod Answers
+pub mod Places
+pub mod Labels

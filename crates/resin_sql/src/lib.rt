@@ -1,0 +1,33 @@
+//! Statements of SQL, read from labelled texts.
+//!
+//! - `CREATE TABLE t (c INTEGER, d TEXT, ..)` with 1 to 64 columns
+//! - `INSERT INTO t VALUES (l, ..), ..` and `INSERT INTO t (c, ..) VALUES (l, ..), ..`
+//! - `SELECT * FROM t` and `SELECT c, .. FROM t`, then optionally `WHERE w`, `ORDER BY c` with or without `ASC` or `DESC`, and
+//!   `LIMIT n`
+//! - `UPDATE t SET c = l, ..` and `DELETE FROM t`, then optionally `WHERE w`
+//!
+//! A condition w is tests joined by `OR` and, tighter, `AND`, with brackets nested at most 50. A test is `c op l` with
+//! `= <> < <= > >=`, `c IS NULL` or `c IS NOT NULL`. A literal l is `NULL`, digits with an optional `-` in 64 bits, or `'..'` with
+//! `''` for a quote; n is digits up to 9,223,372,036,854,775,807. Keywords are read in any case. Names are
+//! `[A-Za-z_][A-Za-z0-9_]*`, at most 64 bytes, no keyword, and don't end with `__resin`. Blanks are space, tab, CR and LF; they are
+//! needed only where two words, or a word and digits, would run together. One `;` may end the text. There are no comments.
+//!
+//! `specs/Conditions.antt` and `specs/Statements.antt` have this grammar, as forms over the bytes of a text, and
+//! `specs/Answers.antt` says what a text is by it: a statement, or none, and where the first fault is.
+#![tactic(auto)]
+
+mod condition;
+mod fault;
+mod labels;
+mod lists;
+mod read;
+mod statement;
+mod tree;
+
+pub use fault::{SqlFault, SqlRefusal, SqlStop};
+pub use labels::literal_text;
+pub use read::read_sql;
+pub use resin_sql_words::{Literal, Span};
+pub use tree::{
+    Change, Comparison, Condition, Create, Delete, Insert, Order, Select, Stmt, Test, Update,
+};

@@ -1,0 +1,3 @@
+-- What this crate stands on, passed on to the crates above, which list this one alone.
+pub use Rattle.resin_scope.specs.Under.journal
+pub use Rattle.resin_scope.specs as scope

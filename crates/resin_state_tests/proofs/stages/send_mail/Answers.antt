@@ -1,5 +1,0 @@
-use Rattle.resin_stage.proofs.Plain.{may_send_plain}
-use Rattle.resin_state_tests.proofs.stages.send_mail.Goals as goal
-
-pub send_mail-requires : goal.send_mail-requires
-send_mail-requires c = may_send_plain _ _ _ _ _ c.in_ok-text.ensures c.in-Some.ensures.begun
