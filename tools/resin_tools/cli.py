@@ -15,6 +15,9 @@ from .fault import Wrong
 from .imports import import_files, read_file
 from .live import check_folder, live
 from .programs import CHECKER, ENGINE, Program
+from .report import report
+from .report_page import report_page, write_page
+from .report_text import report_text
 from .show import exchanges, show_json, show_text
 from .terminal import complain
 
@@ -58,6 +61,7 @@ def _parser() -> argparse.ArgumentParser:
     _add_import(commands)
     _add_show(commands)
     _add_diff(commands)
+    _add_report(commands)
     _add_check(commands)
     return parser
 
@@ -167,6 +171,33 @@ def _diff(chosen: argparse.Namespace) -> int:
     lines = list(differences(old, new))
     print("\n".join(lines) if lines else f"the same {len(old)} answers")
     return 1 if lines else 0
+
+
+_REPORT = """Tells what left in a run and what was denied, on one screen. `resin_cli record < TRACE > ANSWERS`, in the folder of a site, leaves the journal of
+the run there as journal.log. With --html, PAGE also gets each text that left, its labelled ranges coloured by policy. PAGE holds the secrets that a
+policy let through."""
+
+
+def _add_report(commands) -> None:
+    example = "tools/resin report login.trace login.answers mysite/journal.log --html report.html"
+    parser = _add(commands, "report", _report, "what left in a recorded run, and what was denied", _REPORT, example)
+    parser.add_argument("trace", metavar="TRACE", type=Path)
+    parser.add_argument("answers", metavar="ANSWERS", type=Path)
+    parser.add_argument("journal", metavar="JOURNAL", type=Path)
+    parser.add_argument("--html", metavar="PAGE", type=Path, help="write a page with the texts that left; it has no script and no outside link")
+
+
+def _report(chosen: argparse.Namespace) -> int:
+    paths = (chosen.trace, chosen.answers, chosen.journal)
+    made = report(*map(read_file, paths))
+    if chosen.html:
+        write_page(chosen.html, report_page(made, ", ".join(map(str, paths))))
+    for note in made.notes:
+        complain(note)
+    screen = shutil.get_terminal_size()
+    for line in report_text(made, screen.columns, screen.lines):
+        print(line)
+    return 0
 
 
 _CHECK = """Looks at the scripts of FOLDER/site/ before they run: texts that are no programs, calls of functions and names of classes that neither the
