@@ -33,7 +33,8 @@ table { border-collapse: collapse; width: 100% }
 th, td { text-align: left; padding: .25em .6em; border-bottom: 1px solid #ddd; vertical-align: top; overflow-wrap: anywhere }
 code, pre { font: 13px/1.5 monospace; overflow-wrap: anywhere }
 pre { white-space: pre-wrap; background: #f7f7f7; border: 1px solid #ddd; padding: .6em; margin: .3em 0 1em }
-section { border-top: 3px solid #ddd; margin-top: 2em }
+section { border-top: 3px solid #ddd; margin-top: 1.5em }
+h2 { font-size: 1.2em }
 h3 { margin: 1em 0 0; font-size: 1em }
 mark { color: inherit; border-radius: 2px }
 mark[data-p]::after { content: attr(data-p); font-size: 9px; vertical-align: super; padding: 0 1px }
@@ -123,7 +124,7 @@ class _Section:
         exchange = self._page.exchange
         response = exchange.response
         answer = f"answered with <code>{_bytes(response.line)}</code>" if response else "not answered: the run ended before"
-        yield f"<section id=request-{exchange.number}>\n<h2>Request {exchange.number}: {_line(self._page)}</h2>\n<p>{answer}, connection {exchange.connection}.</p>\n"
+        yield f"<section id=request-{exchange.number}>\n<h2>Request {exchange.number}: {_line(self._page)}</h2>\n<p>{answer}, connection {exchange.connection}</p>\n"
         yield from self._legend()
         for part in self._page.story:
             yield from self._denial(part) if isinstance(part, Denial) else self._left(part)

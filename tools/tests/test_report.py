@@ -132,7 +132,7 @@ class Files(Reports):
         done = self.report("--html", self.page)
         self.assertEqual((done.returncode, done.stderr), (0, b"resin: 1 requests have no answer\n"))
         self.assertRegex(done.stdout.decode(), r"4  GET /hello.php\?n=<b> +none ")
-        self.assertIn("<p>not answered: the run ended before, connection 3.</p>", self.page.read_text())
+        self.assertIn("<p>not answered: the run ended before, connection 3</p>", self.page.read_text())
 
     def test_a_page_takes_the_place_of_a_report_alone(self):
         self.html()
