@@ -173,9 +173,9 @@ def _diff(chosen: argparse.Namespace) -> int:
     return 1 if lines else 0
 
 
-_REPORT = """Tells what left in a run and what was denied, on one screen. `resin_cli record < TRACE > ANSWERS`, in the folder of a site, leaves the journal of
-the run there as journal.log. With --html, PAGE also gets each text that left, its labelled ranges coloured by policy. PAGE holds the secrets that a
-policy let through."""
+_REPORT = """Tells what left in a run and what was denied, on one screen. JOURNAL is the journal file of the run (docs/FORMATS.md): `record` of the engine leaves it
+as journal.log in the folder where it runs. PAGE gets each text that left, its labelled ranges coloured by policy; it holds the secrets that a policy
+let through."""
 
 
 def _add_report(commands) -> None:
@@ -184,7 +184,7 @@ def _add_report(commands) -> None:
     parser.add_argument("trace", metavar="TRACE", type=Path)
     parser.add_argument("answers", metavar="ANSWERS", type=Path)
     parser.add_argument("journal", metavar="JOURNAL", type=Path)
-    parser.add_argument("--html", metavar="PAGE", type=Path, help="write a page with the texts that left; it has no script and no outside link")
+    parser.add_argument("--html", metavar="PAGE", type=Path, help="write a page of HTML with the texts that left, without scripts or outside links")
 
 
 def _report(chosen: argparse.Namespace) -> int:
