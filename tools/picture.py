@@ -103,7 +103,7 @@ def picture(lines: list[Spans], page: str) -> str:
         f'<svg xmlns="http://www.w3.org/2000/svg" viewBox="0 0 {wide} {terminal + browser + MARGIN}" width="{wide}" font-family="{FONT}" font-size="{SIZE}">',
         f"<title>tools/resin live demo: {escape(status)} in place of a password</title>",
         window(0, wide, terminal, "#1e1e1e"),
-        *(text_line(spans, BAR + (at + 1) * HIGH) for at, spans in enumerate(lines)),
+        *(text_line(spans, BAR + (at + 1) * HIGH) for at, spans in enumerate(lines) if spans),
         window(terminal + MARGIN, wide, browser, "#ffffff"),
         f'<rect x="80" y="{terminal + MARGIN + 6}" width="{wide - 80 - MARGIN}" height="{BAR - 12}" rx="9" fill="#ffffff"/>',
         text_line([(address, "address")], terminal + MARGIN + BAR / 2 + 4, 92),

@@ -12,8 +12,9 @@ from .build import build
 from .check import check_site
 from .diff import differences, read_answer_file
 from .fault import Wrong
+from .folders import check_folder
 from .imports import import_files, read_file
-from .live import check_folder, live
+from .live import live
 from .programs import CHECKER, ENGINE, Program
 from .report import report
 from .report_page import report_page, write_page
