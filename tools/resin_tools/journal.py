@@ -4,7 +4,7 @@ from collections.abc import Iterator
 from dataclasses import dataclass, field
 
 from .denials import Denial
-from .labelled import Labelled, Run
+from .labelled import Labelled, Policies, Run
 from .records import BadRecord
 
 MOST_SENT = 16_777_216
@@ -61,7 +61,7 @@ _CHANNEL = rb"(http|header|email|file|sql|code|input|func)"
 _REQUEST = _line(b"request", _NUMBER)
 _PASSED = _line(b"passed", _NUMBER, _NUMBER)
 _SENT = _line(b"sent", _NUMBER, _CHANNEL, _NUMBER, _NUMBER)
-_RUN = _line(_NUMBER + rb"((?: [0-9]+)*)")
+_RUN = _line(_NUMBER + rb"((?: (?:0|[1-9][0-9]{0,9}))*)")
 _DENIED = _line(b"denied", _NUMBER, _CHANNEL, _NUMBER, _NAME, _NUMBER, _NUMBER, _NAME)
 _FILTER = _line(b"filter", _NUMBER, _CHANNEL, _NUMBER, _NAME, _NUMBER, _NAME)
 
@@ -120,28 +120,33 @@ def _event(text: bytes, at: int, request: int) -> tuple[Event, int]:
 def _labelled(text: bytes, at: int, length: int, count: int) -> tuple[Labelled, int]:
     """The text of so many bytes and runs that stands at a place, and the place behind it."""
     runs: list[Run] = []
+    total, before, known = 0, None, dict[bytes, Policies]()
     while len(runs) < count:
         found = _RUN.match(text, at)
         if not found:
             raise _NoItem
-        run = Run(_number(found[1], MOST_SENT), tuple(_object(number) for number in found[2].split()))
-        if run.length == 0 or not _rise(run.policies) or runs and runs[-1].policies == run.policies:
+        size, digits = found.groups()
+        if digits not in known:
+            known[digits] = _rising([_object(number) for number in digits.split()])
+        if size == b"0" or digits == before:
             raise _NoItem
-        runs.append(run)
-        at = found.end()
+        runs.append(Run(_number(size, MOST_SENT), known[digits]))
+        total, before, at = total + runs[-1].length, digits, found.end()
     end = at + length
-    if sum(run.length for run in runs) != length or text[end : end + 1] != b"\n":
+    if total != length or text[end : end + 1] != b"\n":
         raise _NoItem
     return Labelled(text[at:end], tuple(runs)), end + 1
 
 
-def _rise(numbers: tuple[int, ...]) -> bool:
-    return all(one < other for one, other in zip(numbers, numbers[1:]))
+def _rising(numbers: list[int]) -> Policies:
+    if any(one >= other for one, other in zip(numbers, numbers[1:])):
+        raise _NoItem
+    return tuple(numbers)
 
 
 def _number(digits: bytes, most: int = _MOST_NUMBER) -> int:
-    number = int(digits) if len(digits) <= 20 else most + 1
-    if number > most or digits != b"%d" % number:
+    number = int(digits)
+    if number > most:
         raise _NoItem
     return number
 

@@ -1,6 +1,8 @@
 """Texts whose bytes carry policies, told by runs, and what of a long one is shown."""
-from collections.abc import Iterable, Iterator
+from collections.abc import Iterator
 from dataclasses import dataclass
+from functools import cached_property
+from typing import NamedTuple
 
 WHOLE = 8192
 """A text of at most so many bytes is shown whole."""
@@ -12,22 +14,21 @@ Policies = tuple[int, ...]
 """The numbers of the policies that a byte carries, rising."""
 
 
-@dataclass(frozen=True, slots=True)
-class Run:
+class Run(NamedTuple):
     """So many bytes that carry these policies."""
 
     length: int
     policies: Policies
 
 
-@dataclass(frozen=True, slots=True)
+@dataclass(frozen=True)
 class Labelled:
     """A text, and the runs that its bytes make up."""
 
     data: bytes
     runs: tuple[Run, ...]
 
-    @property
+    @cached_property
     def labelled(self) -> int:
         """How many of its bytes carry a policy."""
         return sum(run.length for run in self.runs if run.policies)
@@ -40,17 +41,17 @@ class Labelled:
             at += run.length
 
 
-def joined(texts: Iterable[Labelled]) -> Labelled:
+def joined(texts: list[Labelled]) -> Labelled:
     """One text of several, in order. Neighbours with the same policies become one run."""
-    data, runs = bytearray(), list[Run]()
+    runs: list[Run] = []
     for text in texts:
-        data += text.data
-        for run in text.runs:
-            if runs and runs[-1].policies == run.policies:
-                runs[-1] = Run(runs[-1].length + run.length, run.policies)
-            else:
-                runs.append(run)
-    return Labelled(bytes(data), tuple(runs))
+        front, *rest = text.runs or (Run(0, ()),)
+        if runs and runs[-1].policies == front.policies:
+            runs[-1] = Run(runs[-1].length + front.length, front.policies)
+        elif front.length:
+            runs.append(front)
+        runs += rest
+    return Labelled(b"".join(text.data for text in texts), tuple(runs))
 
 
 @dataclass(frozen=True, slots=True)

@@ -2,6 +2,7 @@
 import re
 from collections.abc import Iterator
 from dataclasses import dataclass, field
+from functools import cached_property
 
 from .denials import Denial
 from .fault import Wrong
@@ -55,15 +56,20 @@ class Page:
             return request.raw.partition(b"\r\n")[0]
         return b"%b %b HTTP/1.%d" % (request.method, request.target, request.minor)
 
-    @property
-    def text(self) -> Labelled:
-        """All that left, on every channel."""
-        return joined(sent.text for sent in self.journal.sent)
+    @cached_property
+    def length(self) -> int:
+        """How many bytes left, on every channel."""
+        return sum(len(sent.text.data) for sent in self.journal.sent)
+
+    @cached_property
+    def labelled(self) -> int:
+        """How many of them carry a policy."""
+        return sum(sent.text.labelled for sent in self.journal.sent)
 
     @property
     def tells(self) -> bool:
         """Whether something labelled left, or something was denied."""
-        return bool(self.journal.denials) or any(sent.text.labelled for sent in self.journal.sent)
+        return bool(self.labelled or self.journal.denials)
 
     @property
     def story(self) -> Iterator[Left | Denial]:
@@ -113,10 +119,9 @@ class Report:
     @property
     def summary(self) -> str:
         """A line with the counts."""
-        sent = [text for page in self.pages for text in page.journal.sent]
-        length, labelled = sum(len(it.text.data) for it in sent), sum(it.text.labelled for it in sent)
-        parts = (counted(len(self.pages), "request"), counted(len(sent), "write"), counted(length, "byte"), counted(len(self.denials), "denial"))
-        return f"{parts[0]}; {parts[1]} left with {parts[2]}, {labelled} of them labelled; {parts[3]}"
+        writes, length, labelled = (sum(counts) for counts in zip((0, 0, 0), *((len(it.journal.sent), it.length, it.labelled) for it in self.pages)))
+        left = f"{counted(writes, 'write')} left with {counted(length, 'byte')}, {labelled} of them labelled"
+        return f"{counted(len(self.pages), 'request')}; {left}; {counted(len(self.denials), 'denial')}"
 
 
 def report(trace: bytes, answers: bytes, journal: bytes) -> Report:
@@ -161,7 +166,7 @@ def _added(exchange: Exchange, journal: Journal) -> bytes:
 
 
 def _left(together: list[Sent]) -> Left:
-    return Left(together[0].channel, together[0].write, together[-1].write, joined(sent.text for sent in together))
+    return Left(together[0].channel, together[0].write, together[-1].write, joined([sent.text for sent in together]))
 
 
 def _policy(found: dict[int, Policy], number: int) -> Policy:

@@ -46,11 +46,11 @@ def _denied(page: Page, denial: Denial) -> _Row:
 
 
 def _left(page: Page) -> _Row:
-    text, response = page.text, page.exchange.response
-    numbers = sorted({number for run in text.runs for number in run.policies})
+    response = page.exchange.response
+    numbers = sorted({number for policies in {run.policies for sent in page.journal.sent for run in sent.text.runs} for number in policies})
     names = " ".join(map(str, numbers[:_MOST_POLICIES])) + (" ..." if len(numbers) > _MOST_POLICIES else "")
     status = str(response.status) if response else "none"
-    return _Row((str(page.exchange.number), _line(page), status, str(len(text.data)), str(text.labelled or ""), names), page.tells)
+    return _Row((str(page.exchange.number), _line(page), status, str(page.length), str(page.labelled or ""), names), page.tells)
 
 
 def _line(page: Page) -> str:

@@ -276,7 +276,7 @@ class Engine(Reports):
         self.trace.write_bytes(trace)
         self.answers.write_bytes(done.stdout)
         lines = self.lines("--html", self.page)
-        self.assertRegex(lines[0], r"^5 requests; \d+ writes left with 4194316 bytes, 0 of them labelled; 1 denial$")
+        self.assertRegex(lines[0], r"^5 requests; \d+ writes left with 4194313 bytes, 0 of them labelled; 1 denial$")
         self.assertIn("2 GET /secret.php 1 http 1-7 NoExport#1 PolicyException".split(), [line.split() for line in lines])
 
 
