@@ -100,7 +100,8 @@ def picture(lines: list[Spans], page: str) -> str:
     browser = BAR + len(body) * HIGH + MARGIN
     address = f"http://{HOST}:{PORT}{SHOWN}"
     parts = [
-        f'<svg xmlns="http://www.w3.org/2000/svg" viewBox="0 0 {wide} {terminal + browser + MARGIN}" width="{wide}" font-family="{FONT}" font-size="{SIZE}">',
+        f'<svg xmlns="http://www.w3.org/2000/svg" viewBox="0 0 {wide} {terminal + browser + MARGIN}" width="{wide}" '
+        f'font-family="{FONT}" font-size="{SIZE}">',
         f"<title>tools/resin live demo: {escape(status)} in place of a password</title>",
         window(0, wide, terminal, "#1e1e1e"),
         *(text_line(spans, BAR + (at + 1) * HIGH) for at, spans in enumerate(lines) if spans),
@@ -115,7 +116,8 @@ def picture(lines: list[Spans], page: str) -> str:
 
 def window(top: int, wide: int, high: int, ground: str) -> str:
     """A window with a bar and three buttons."""
-    buttons = "".join(f'<circle cx="{18 + 18 * at}" cy="{top + BAR / 2}" r="5" fill="{colour}"/>' for at, colour in enumerate(("#ff5f57", "#febc2e", "#28c840")))
+    places = ((18, "#ff5f57"), (36, "#febc2e"), (54, "#28c840"))
+    buttons = "".join(f'<circle cx="{x}" cy="{top + BAR / 2:g}" r="5" fill="{colour}"/>' for x, colour in places)
     frame = f'x="0.5" y="{top + 0.5}" width="{wide - 1}" height="{high - 1}" rx="8"'
     bar = f'<path d="M1 {top + BAR} V{top + 9} a8 8 0 0 1 8 -8 H{wide - 9} a8 8 0 0 1 8 8 V{top + BAR} Z" fill="#d0d0d0"/>'
     return f'<rect {frame} fill="{ground}" stroke="#888888"/>\n{bar}{buttons}'

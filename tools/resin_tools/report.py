@@ -134,7 +134,7 @@ def report(trace: bytes, answers: bytes, journal: bytes) -> Report:
     if len(journals) < answered and not cut:
         raise Wrong(f"the journal is of another run: it has {counted(len(journals), 'request')}, and {answered} have answers")
     if len(journals) < len(found):
-        notes.append(f"{counted(len(found) - len(journals), 'request')} of the trace {'has' if len(found) - len(journals) == 1 else 'have'} no journal")
+        notes.append(f"requests of the trace without a journal: {len(found) - len(journals)}")
     last = len(journals) if cut else None
     return Report([Page(it, own, b"" if own.number == last else _added(it, own)) for it, own in zip(found, journals)], notes)
 

@@ -20,28 +20,30 @@ _COLOURS = ("#ffd966", "#9ee6ab", "#a8d1ff", "#f9b4d8", "#d8c3ff", "#ffbf9b", "#
 _KEEP = """The texts below are what left, with the secrets that a policy let through: keep this page as you would keep those. Of what was denied a
 journal holds no byte, and it names the class of a policy only where that denied."""
 
-_HEAD = """<!doctype html>
+_TITLE = "What left, and what was denied"
+
+_HEAD = f"""<!doctype html>
 <html lang="en">
 <meta charset="utf-8">
 <meta http-equiv="Content-Security-Policy" content="default-src 'none'; style-src 'unsafe-inline'">
 <meta name="viewport" content="width=device-width">
-<title>What left, and what was denied</title>
+<title>{_TITLE}</title>
 <style>
-:root { color-scheme: light }
-body { font: 15px/1.45 sans-serif; margin: 2em auto; max-width: 70em; padding: 0 1em; color: #222; background: #fff }
-table { border-collapse: collapse; width: 100% }
-th, td { text-align: left; padding: .25em .6em; border-bottom: 1px solid #ddd; vertical-align: top; overflow-wrap: anywhere }
-code, pre { font: 13px/1.5 monospace; overflow-wrap: anywhere }
-pre { white-space: pre-wrap; background: #f7f7f7; border: 1px solid #ddd; padding: .6em; margin: .3em 0 1em }
-section { border-top: 3px solid #ddd; margin-top: 1.5em }
-h2 { font-size: 1.2em }
-h3 { margin: 1em 0 0; font-size: 1em }
-mark { color: inherit; border-radius: 2px }
-mark[data-p]::after { content: attr(data-p); font-size: 9px; vertical-align: super; padding: 0 1px }
-.swatch { display: inline-block; min-width: 1.6em; padding: 0 .3em; text-align: center; border-radius: 2px }
-.denied { color: #a40000; font-weight: bold }
-.note, i { color: #666 }
-ul { list-style: none; padding: 0; margin: .5em 0 }
+:root {{ color-scheme: light }}
+body {{ font: 15px/1.45 sans-serif; margin: 2em auto; max-width: 70em; padding: 0 1em; color: #222; background: #fff }}
+table {{ border-collapse: collapse; width: 100% }}
+th, td {{ text-align: left; padding: .25em .6em; border-bottom: 1px solid #ddd; vertical-align: top; overflow-wrap: anywhere }}
+code, pre {{ font: 13px/1.5 monospace; overflow-wrap: anywhere }}
+pre {{ white-space: pre-wrap; background: #f7f7f7; border: 1px solid #ddd; padding: .6em; margin: .3em 0 1em }}
+section {{ border-top: 3px solid #ddd; margin-top: 1.5em }}
+h2 {{ font-size: 1.2em }}
+h3 {{ margin: 1em 0 0; font-size: 1em }}
+mark {{ color: inherit; border-radius: 2px }}
+mark[data-p]::after {{ content: attr(data-p); font-size: 9px; vertical-align: super; padding: 0 1px }}
+.swatch {{ display: inline-block; min-width: 1.6em; padding: 0 .3em; text-align: center; border-radius: 2px }}
+.denied {{ color: #a40000; font-weight: bold }}
+.note, i {{ color: #666 }}
+ul {{ list-style: none; padding: 0; margin: .5em 0 }}
 </style>
 """
 
@@ -49,7 +51,7 @@ ul { list-style: none; padding: 0; margin: .5em 0 }
 def report_page(report: Report, files: str) -> Iterator[str]:
     """The parts of the page. The files are those that it was made from."""
     yield _HEAD
-    yield f"<h1>What left, and what was denied</h1>\n<p>{escape(report.summary)}.</p>\n"
+    yield f"<h1>{_TITLE}</h1>\n<p>{escape(report.summary)}.</p>\n"
     yield f"<p class=note>Made by <code>tools/resin report</code> from {_text(files)}. {_KEEP}</p>\n"
     for note in report.notes:
         yield f"<p class=note>{_text(note)}</p>\n"
@@ -61,14 +63,15 @@ def report_page(report: Report, files: str) -> Iterator[str]:
         yield from part.lines()
         room = part.room
     if len(pages) < len(report.pages):
-        yield f"<p class=note>(cut: {len(report.pages) - len(pages)} of {len(report.pages)} requests aren't shown; those with labelled bytes or denials come first)</p>\n"
+        missing = f"{len(report.pages) - len(pages)} of {len(report.pages)} requests aren't shown"
+        yield f"<p class=note>(cut: {missing}; those with labelled bytes or denials come first)</p>\n"
     yield "</html>\n"
 
 
 def write_page(path: Path, parts: Iterator[str]) -> None:
     """Writes a page. Raises Wrong where something else stands there, or where it can't be written."""
     try:
-        if path.exists() and not path.read_bytes().startswith(_HEAD.encode()):
+        if path.exists() and f"<title>{_TITLE}</title>".encode() not in path.read_bytes()[:4096]:
             raise Wrong(f"{path} is there already, and is no report: give --html a new name")
         with open(path, "w", encoding="utf-8", newline="\n") as page:
             page.writelines(parts)
@@ -95,7 +98,8 @@ def _denials(report: Report, there: set[int]) -> Iterator[str]:
     yield "<table>\n<tr>" + "".join(f"<th>{head}" for head in heads) + "\n"
     for page, denial in found[:_MOST_DENIALS]:
         number = f"<a href=#request-{denial.request}>{denial.request}</a>" if denial.request in there else str(denial.request)
-        cells = (str(denial.write), denial.channel, f"{denial.kind} <code>{_text(denial.name)}</code>", f"<code>{_text(denial.by)}</code>", denial.bytes)
+        who, by = f"{denial.kind} <code>{_text(denial.name)}</code>", f"<code>{_text(denial.by)}</code>"
+        cells = (str(denial.write), denial.channel, who, by, denial.bytes)
         yield f"<tr><td>{number} {_line(page)}" + "".join(f"<td>{cell}" for cell in cells) + "\n"
     yield "</table>\n"
     if len(found) > _MOST_DENIALS:
@@ -124,7 +128,8 @@ class _Section:
         exchange = self._page.exchange
         response = exchange.response
         answer = f"answered with <code>{_bytes(response.line)}</code>" if response else "not answered: the run ended before"
-        yield f"<section id=request-{exchange.number}>\n<h2>Request {exchange.number}: {_line(self._page)}</h2>\n<p>{answer}, connection {exchange.connection}</p>\n"
+        yield f"<section id=request-{exchange.number}>\n<h2>Request {exchange.number}: {_line(self._page)}</h2>\n"
+        yield f"<p>{answer}, connection {exchange.connection}</p>\n"
         yield from self._legend()
         for part in self._page.story:
             yield from self._denial(part) if isinstance(part, Denial) else self._left(part)

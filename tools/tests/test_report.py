@@ -78,8 +78,8 @@ class Screen(Reports):
         self.assertEqual(rows[at + 1], "request write channel bytes policy or filter exception".split())
         self.assertEqual(rows[at + 2], "3 GET /mail.php 2 http 0-2 PasswordPolicy#2 E".split())
         self.assertEqual(rows[at + 3], "4 GET /hello.php?n=<b> 2 http 0-3 filter NoTags#1 F".split())
-        at = lines.index("what left:")
-        self.assertEqual(rows[at + 2 :], [row.split() for row in ("1 GET /note.txt 200 6", "2 GET /nothing 404 0", "3 GET /mail.php 500 14 2 2", "4 GET /hello.php?n=<b> 200 10 3 1 2")])
+        wanted = ("1 GET /note.txt 200 6", "2 GET /nothing 404 0", "3 GET /mail.php 500 14 2 2", "4 GET /hello.php?n=<b> 200 10 3 1 2")
+        self.assertEqual(rows[lines.index("what left:") + 2 :], [row.split() for row in wanted])
 
     def test_it_fits_the_screen(self):
         self.write(ANSWERS * 40 + [("/" + "long" * 100 + ".php", response(b"\x1b[31m"), sent(1, "http", (b"\x1b[31m", (9,))))])
@@ -123,7 +123,7 @@ class Files(Reports):
         self.journal.write_bytes(text[: text.index(b"pw")])
         done = self.report()
         at = text.index(b"sent 1 email")
-        notes = f"resin: journal: no whole item at byte {at}; what follows is left out\nresin: 1 request of the trace has no journal\n"
+        notes = f"resin: journal: no whole item at byte {at}; what follows is left out\nresin: requests of the trace without a journal: 1\n"
         self.assertEqual((done.returncode, done.stderr.decode()), (0, notes))
         self.assertIn("3 requests; 1 write left", done.stdout.decode())
 
