@@ -12,11 +12,11 @@ _LONGEST_CELL = 28
 _SHORTEST_LINE = 16
 _MOST_POLICIES = 6
 
-_DENIED = ("", "request", "write", "channel", "bytes", "policy or filter", "exception")
+_DENIED = ("", "request", "write", "bytes", "policy or filter", "exception")
 _LEFT = ("", "request", "status", "bytes", "labelled", "policies")
 _LINE = 1
 """The column with the request line, which takes what the others leave of the width."""
-_NUMBERS = ("", "write", "status", "bytes", "labelled")
+_NUMBERS = ("", "status", "bytes", "labelled")
 
 
 @dataclass(frozen=True)
@@ -41,7 +41,7 @@ def report_text(report: Report, width: int, height: int) -> Iterator[str]:
 
 def _denied(page: Page, denial: Denial) -> _Row:
     by = denial.name if denial.kind == "policy" else f"filter {denial.name}"
-    cells = (shown(it, _LONGEST_CELL) for it in (str(denial.write), denial.channel, denial.bytes, by, denial.by))
+    cells = (shown(it, _LONGEST_CELL) for it in (f"{denial.write} {denial.channel}", denial.bytes, by, denial.by))
     return _Row((str(denial.request), _line(page), *cells))
 
 

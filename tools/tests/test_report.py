@@ -75,7 +75,7 @@ class Screen(Reports):
         self.assertEqual(lines[0], "4 requests; 5 writes left with 30 bytes, 5 of them labelled; 2 denials")
         rows = [line.split() for line in lines]
         at = lines.index("denied:")
-        self.assertEqual(rows[at + 1], "request write channel bytes policy or filter exception".split())
+        self.assertEqual(rows[at + 1], "request write bytes policy or filter exception".split())
         self.assertEqual(rows[at + 2], "3 GET /mail.php 2 http 0-2 PasswordPolicy#2 E".split())
         self.assertEqual(rows[at + 3], "4 GET /hello.php?n=<b> 2 http 0-3 filter NoTags#1 F".split())
         wanted = ("1 GET /note.txt 200 6", "2 GET /nothing 404 0", "3 GET /mail.php 500 14 2 2", "4 GET /hello.php?n=<b> 200 10 3 1 2")
