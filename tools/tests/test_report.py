@@ -264,20 +264,47 @@ class Pages(Reports):
         self.assertEqual(read(page).ids, [f"request-{number}" for number in range(101, 601)])
 
 
+SITE = {
+    "boot.php": "<?php class Mailed extends Policy { function export_check($c) { if ($c['type'] == 'http') throw new PolicyException('no'); } }",
+    "buffer.php": "<?php ob_start(); echo 'kept ', policy_add('s', new Mailed()); ob_get_clean(); header('X-A: 1'); header('Location: /x'); echo 'é';",
+    "status.php": "<?php http_response_code(404); echo ''; echo 'gone'; exit;",
+    "fault.php": "<?php echo 'front '; $a = [1]; echo $a . 'x';",
+    "mail.php": "<?php mail('a@b.c', 's', policy_add('pw', new Mailed())); try { echo policy_add('x', new Mailed()); } catch (PolicyException $e) { echo 'caught'; }",
+    "bytes.bin": "\x00\x01\n",
+}
+
+
 class Engine(Reports):
-    def test_a_run_of_record(self):
+    """Runs of the engine's own `record`."""
+
+    def record(self, *raw: bytes) -> list[list[str]]:
+        """What the report tells of a run over these requests, in words."""
         engine = engine_or_skip()
-        make_site(self.folder)
-        targets = ["/echo.php?n=1", "/secret.php", "/none", "/note.txt", "/long.php"]
-        trace = b"".join(piece_text(3, get(target)) for target in targets)
-        done = subprocess.run([engine, "record"], cwd=self.folder, input=trace, capture_output=True, check=False)
+        self.trace.write_bytes(b"".join(piece_text(number, request) for number, request in enumerate(raw, 1)))
+        done = subprocess.run([engine, "record"], cwd=self.folder, input=self.trace.read_bytes(), capture_output=True, check=False)
         if done.returncode == 2:
             self.skipTest("the engine has no word record yet")
-        self.trace.write_bytes(trace)
+        self.assertEqual(done.returncode, 0, done.stderr)
         self.answers.write_bytes(done.stdout)
-        lines = self.lines("--html", self.page)
-        self.assertRegex(lines[0], r"^5 requests; \d+ writes left with 4194313 bytes, 0 of them labelled; 1 denial$")
-        self.assertIn("2 GET /secret.php 1 http 1-7 NoExport#1 PolicyException".split(), [line.split() for line in lines])
+        return [line.split() for line in self.lines("--html", self.page)]
+
+    def test_a_run_of_record(self):
+        make_site(self.folder)
+        targets = ["/echo.php?n=1", "/secret.php", "/none", "/note.txt", "/long.php"]
+        rows = self.record(*map(get, targets))
+        self.assertRegex(" ".join(rows[0]), r"^5 requests; \d+ writes left with 4194313 bytes, 0 of them labelled; 1 denial$")
+        self.assertIn("2 GET /secret.php 1 http 1-7 NoExport#1 PolicyException".split(), rows)
+
+    def test_each_kind_of_answer(self):
+        for name, text in SITE.items():
+            self.put(f"site/{name}", text)
+        asked = [get(f"/{name}") for name in SITE] + [get("/status.php").replace(b"GET", b"HEAD"), get("/none").replace(b"GET", b"HEAD")]
+        rows = self.record(*asked, get("/", "Transfer-Encoding: chunked").replace(b"GET", b"HEAD"), b"none\r\n\r\n")
+        left = [" ".join(row) for row in rows[rows.index(["what", "left:"]) + 2 :]]
+        names = ["1 GET /boot.php 404 0", "2 GET /buffer.php 302 20", "3 GET /status.php 404 7", "4 GET /fault.php 500 6", "5 GET /mail.php 200 16 2 1"]
+        names += ["6 GET /bytes.bin 200 3", "7 HEAD /status.php 404 7", "8 HEAD /none 404 0", "9 HEAD / 501 0", "10 none 400 0"]
+        self.assertEqual(left, names)
+        self.assertIn("5 GET /mail.php 2 http 0-1 Mailed#2 PolicyException".split(), rows)
 
 
 if __name__ == "__main__":
