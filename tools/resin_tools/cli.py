@@ -88,8 +88,8 @@ def _build(chosen: argparse.Namespace) -> int:
     return 0
 
 
-_LIVE = """Serves FOLDER/site/ by HTTP until Ctrl-C. FOLDER is where the engine runs: denial.log, outbox.txt and resin.db stand there. The terminal gets
-a line for each answer (time, method, target, status, bytes of the body, milliseconds) and a red one for each denial."""
+_LIVE = """Serves FOLDER/site/ by HTTP until Ctrl-C. FOLDER is where the engine runs: denial.log and outbox.txt stand there. The terminal gets a line for
+each answer (time, method, target, status, bytes of the body, milliseconds) and a red one for each denial."""
 
 
 def _add_live(commands) -> None:
