@@ -1,0 +1,19 @@
+//! Policy texts: what is kept of a policy object beside stored data, as PHP's `serialize` writes an object with public properties.
+#![tactic(auto)]
+
+mod fault;
+mod freezing;
+mod frozen;
+mod keys;
+mod laws;
+mod policy;
+mod rest;
+mod stop;
+mod values;
+
+pub use fault::FreezeFault;
+pub use freezing::freeze;
+pub use frozen::{Frozen, thaw};
+pub use laws::policy_laws;
+pub use rest::Rest;
+pub use stop::Stop;
