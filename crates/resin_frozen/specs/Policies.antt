@@ -1,5 +1,6 @@
 -- What is kept of a policy, which policies can be kept, and which texts are policy texts.
-use Rattle.std.specs.Prelude.{◌≡◌, ℕ, zero, suc, ◌≤◌, Bool, true, false, ◌&&◌, List, [], ◌∷◌, length, map, codes, Option, Some, None, if◌then◌else◌}
+use Rattle.std.specs.Prelude.{◌≡◌, ℕ, ℤ, zero, suc, ◌^◌, ◌<◌, ◌≤◌, Bool, true, false, ◌&&◌, List, [], ◌∷◌, length, map, codes, Option, Some, None, if◌then◌else◌}
+use lib.Signed.{mag}
 use Rattle.std.specs.List.{list_all, IsDistinct}
 use Rattle.std.specs.Str.{bytes_eq}
 use Rattle.std.specs.Map.{lookup as at_name, keys_of}
@@ -41,20 +42,32 @@ abbrev mutual
   are_storable room no_entry = true
   are_storable room (entry k t r) = is_storable room t && are_storable room r
 
--- a value that a text can keep: as above, with texts and keys as values have them
+-- a count of bytes or pairs: a number of 64 bits
+abbrev pub IsCount : ℕ → Type 0
+IsCount n = n < 2 ^ 64
+
+-- an integer of 64 bits with a sign
+abbrev pub IsInteger : ℤ → Type 0
+IsInteger n = mag n < 2 ^ 63
+
+abbrev pub IsWholeKey : Key → Type 0
+IsWholeKey (Int n) = IsInteger n
+IsWholeKey (TextKey w) = IsCount (length w)
+
+-- a value that a text can keep: as above, with numbers, texts and keys as values have them
 abbrev mutual
   pub IsWhole : ℕ → Tree → Type 0
   IsWhole room null = Unit {0}
   IsWhole room (boolean b) = Unit {0}
-  IsWhole room (integer n s) = Unit {0}
+  IsWhole room (integer n s) = IsInteger n
   IsWhole room (text t) = length t ≤ LONGEST
   IsWhole zero (array r l h) = ⊥
-  IsWhole (suc room) (array r l h) = IsApart (entries_of r) × AreLawful (entries_of r) × AreWhole room r
+  IsWhole (suc room) (array r l h) = IsCount (length (entries_of r)) × IsApart (entries_of r) × AreLawful (entries_of r) × AreWhole room r
   IsWhole room (object n) = ⊥
 
   pub AreWhole : ℕ → Row → Type 0
   AreWhole room no_entry = Unit {0}
-  AreWhole room (entry k t r) = IsWhole room t × AreWhole room r
+  AreWhole room (entry k t r) = IsWholeKey k × IsWhole room t × AreWhole room r
 
 abbrev pub is_field_key : Key → Bool
 is_field_key (Int n) = false
@@ -65,6 +78,7 @@ pub record IsPolicy (class : List ℕ) (fields : EntryList) : Type 0 where
   pub class_name : is_name class ≡ true
   pub class_short : length class ≤ LONGEST
   pub field_names : list_all (λ e. is_field_key e.0) fields ≡ true
+  pub count : IsCount (length fields)
   pub apart : IsApart fields
   pub whole : AreWhole ROOM (row_of fields)
 
@@ -76,6 +90,10 @@ pub record IsPolicyText (bytes : List ℕ) : Type 0 where
   pub text_is : bytes ≡ policy_text class fields
 
 -- ---- what a text keeps of a value: no labels, and each array built anew from its entries, so that its next key is one more than its largest integer key
+
+-- an array as a value
+abbrev pub tree_of_array : Array → Tree
+tree_of_array a = array (row_of a.entries) a.largest a.height
 
 abbrev mutual
   pub kept : Tree → Tree
@@ -90,9 +108,6 @@ abbrev mutual
   pub filled : Array → Row → Array
   filled a no_entry = a
   filled a (entry k t r) = filled (put k (kept t) a) r
-
-  pub tree_of_array : Array → Tree
-  tree_of_array a = array (row_of a.entries) a.largest a.height
 
 -- ---- objects
 

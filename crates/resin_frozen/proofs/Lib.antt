@@ -1,0 +1,6 @@
+pub mod Numbers
+pub mod Parts
+pub mod Pairs
+pub mod Written
+pub mod Back
+pub mod Laws
