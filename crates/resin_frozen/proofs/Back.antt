@@ -120,7 +120,7 @@ braced_read V room H keys xs b rest e =
     let c = bound (literal (codes "}") a.0.1) (λ c. Some (a.0.0, c.1)) (b, rest) a.2 in
     let p = from_some (a.0.0, c.0.1) (b, rest) c.2 in
     let count = natural_read 58 xs n.0.1 n.0.0 n.1 in
-    let open = literal_read (codes "{") n.0.1 o.0.1 o.0.0 o.1 in
+    let opening = literal_read (codes "{") n.0.1 o.0.1 o.0.0 o.1 in
     let r = pairs_read V room H keys n.0.0 empty o.0.1 a.0.0 a.0.1 a.1 in
     let close = literal_read (codes "}") a.0.1 c.0.1 c.0.0 c.1 in
     let b_is : b ≡ filled empty r.row = sym (ap (λ q. q.0) p) ∙ r.becomes in
@@ -128,7 +128,7 @@ braced_read V room H keys xs b rest e =
     let row : r.row ≡ row_of b.entries = sym (row_of-entries_of r.row) ∙ ap row_of entries in
     let len : n.0.0 ≡ length b.entries = sym r.count ∙ ap length entries in
     record {
-      told = count.0 ∙ ap (λ v. decimal n.0.0 ++ 58 ∷ v) (open ∙ ap (λ v. 123 ∷ v) (r.told ∙ ap (λ v. pairs_text r.row ++ v) (close ∙ ap (λ q. 125 ∷ q.1) p)))
+      told = count.0 ∙ ap (λ v. decimal n.0.0 ++ 58 ∷ v) (opening ∙ ap (λ v. 123 ∷ v) (r.told ∙ ap (λ v. pairs_text r.row ++ v) (close ∙ ap (λ q. 125 ∷ q.1) p)))
           ∙ ap (λ m. decimal m ++ 58 ∷ 123 ∷ (pairs_text r.row ++ 125 ∷ rest)) len
           ∙ ap (λ s. decimal (length b.entries) ++ 58 ∷ 123 ∷ (pairs_text s ++ 125 ∷ rest)) row
           ∙ sym (braced_parts (length b.entries) (pairs_text (row_of b.entries)) rest);
@@ -282,12 +282,12 @@ policy_read xs c es rest e =
     let d = bound (literal (codes ":") k.0.1) (λ d. and_then (braced (value ROOM) Names d.1) (λ a. Some ((k.0.0, a.0.entries), a.1))) ((c, es), rest) k.2 in
     let a = bound (braced (value ROOM) Names d.0.1) (λ a. Some ((k.0.0, a.0.entries), a.1)) ((c, es), rest) d.2 in
     let b = braced_read (value ROOM) ROOM (value_read ROOM) Names d.0.1 a.0.0 a.0.1 a.1 in
-    let open = literal_read (codes "O:") xs o.0.1 o.0.0 o.1 in
+    let opening = literal_read (codes "O:") xs o.0.1 o.0.0 o.1 in
     let name = class_read o.0.1 k.0.0 k.0.1 k.1 in
     let colon = literal_read (codes ":") k.0.1 d.0.1 d.0.0 d.1 in
     let fs = a.0.0.entries in
     let keys : list_all (λ e. is_field_key e.0) fs ≡ true = subst (λ gs. list_all (λ e. is_field_key e.0) gs ≡ true) (entries_of-row_of fs) (names_fit (row_of fs) b.fit) in
     policy_known xs c k.0.0 a.0.0 es a.0.1 rest a.2
-    (open ∙ ap (λ u. codes "O:" ++ u) (name.0 ∙ ap (λ u. texts.quoted k.0.0 ++ u) (colon ∙ ap (λ u. codes ":" ++ u) b.told)) ∙ sym (policy_parts k.0.0 fs a.0.1))
+    (opening ∙ ap (λ u. codes "O:" ++ u) (name.0 ∙ ap (λ u. texts.quoted k.0.0 ++ u) (colon ∙ ap (λ u. codes ":" ++ u) b.told)) ∙ sym (policy_parts k.0.0 fs a.0.1))
     (record { class_name = name.1; class_short = name.2; field_names = keys; count = b.count; apart = b.apart; whole = b.whole })
     b.same

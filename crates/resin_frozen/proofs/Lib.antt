@@ -3,4 +3,6 @@ pub mod Parts
 pub mod Pairs
 pub mod Written
 pub mod Back
-pub mod Laws
+pub mod One_text
+pub mod Loops
+pub mod Turns

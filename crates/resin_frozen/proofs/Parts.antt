@@ -160,13 +160,13 @@ quoted_read xs w rest e =
     let c = bound (literal (codes "\"") v.0.1) (λ c. Some (v.0.0, c.1)) (w, rest) v.2 in
     let p = from_some (v.0.0, c.0.1) (w, rest) c.2 in
     let count = natural_read 58 xs n.0.1 n.0.0 n.1 in
-    let open = literal_read (codes "\"") n.0.1 o.0.1 o.0.0 o.1 in
+    let opening = literal_read (codes "\"") n.0.1 o.0.1 o.0.0 o.1 in
     let bytes = taken_read n.0.0 o.0.1 v.0.0 v.0.1 v.1 in
     let close = literal_read (codes "\"") v.0.1 c.0.1 c.0.0 c.1 in
     let same : v.0.0 ≡ w = ap (λ q. q.0) p in
     let last : c.0.1 ≡ rest = ap (λ q. q.1) p in
     let len : n.0.0 ≡ length w = sym bytes.1 ∙ ap length same in
-    (count.0 ∙ ap (λ v. decimal n.0.0 ++ 58 ∷ v) (open ∙ ap (λ v. 34 ∷ v) (bytes.0 ∙ ap (λ t. v.0.0 ++ t) (close ∙ ap (λ t. 34 ∷ t) last) ∙ ap (λ u. u ++ 34 ∷ rest) same))
+    (count.0 ∙ ap (λ v. decimal n.0.0 ++ 58 ∷ v) (opening ∙ ap (λ v. 34 ∷ v) (bytes.0 ∙ ap (λ t. v.0.0 ++ t) (close ∙ ap (λ t. 34 ∷ t) last) ∙ ap (λ u. u ++ 34 ∷ rest) same))
         ∙ ap (λ m. decimal m ++ 58 ∷ 34 ∷ (w ++ 34 ∷ rest)) len ∙ sym (quoted_parts w rest),
       subst (λ m. m < 2 ^ 64) len count.1)
 

@@ -7,7 +7,7 @@ ghost use Rattle.resin_lstr.specs.Texts.{LONGEST, bytes_of};
 ghost use Rattle.resin_value.specs.Arrays.{row_of};
 ghost use Rattle.resin_value.specs.Seen.{tree_of};
 ghost use Rattle.resin_frozen.specs.Texts as texts;
-ghost use Rattle.resin_frozen.specs.Policies.{ROOM, is_name, is_field_key, is_storable, are_storable, IsWhole, AreWhole, pairs_of, lost, named, text_of, frozen, HasFieldNames, tree_of_array};
+ghost use Rattle.resin_frozen.specs.Policies.{ROOM, IsCount, IsInteger, IsWholeKey, is_name, is_field_key, is_storable, are_storable, IsWhole, AreWhole, pairs_of, lost, named, text_of, frozen, HasFieldNames, tree_of_array};
 ghost use Rattle.resin_frozen.specs.Reads.{Writes, Freezes};
 
 use crate::fault::FreezeFault;
@@ -15,6 +15,7 @@ use crate::frozen::Frozen;
 use crate::keys::{is_field_key, is_name};
 use itoa::Buffer;
 use resin_bytes::Bytes;
+use resin_items::SharedBytes;
 use resin_lstr::LText;
 use resin_value::{Arr, Fields, Key, Value};
 use std::alloc::{AllocError, Global};
@@ -29,7 +30,8 @@ fn push_number(text: &mut Bytes, number: usize) -> Result<(), AllocError>
 
 // Puts bytes behind their count last: `n:"bytes"`.
 fn push_quoted(text: &mut Bytes, bytes: &[u8]) -> Result<(), AllocError>
-    ensures { OnOk result (text.new ≡ text.old ++ texts.quoted bytes.now) }
+    ensures text { OnOk result (text.new ≡ text.old ++ texts.quoted bytes.now) }
+    ensures count { IsCount (length bytes.now) }
 {
     push_number(text, bytes.len())?;
     text.push_slice(b":\"")?;
@@ -39,7 +41,8 @@ fn push_quoted(text: &mut Bytes, bytes: &[u8]) -> Result<(), AllocError>
 
 // Puts an integer last.
 fn push_integer(text: &mut Bytes, number: i64) -> Result<(), AllocError>
-    ensures { OnOk result (text.new ≡ text.old ++ texts.integer_text number) }
+    ensures text { OnOk result (text.new ≡ text.old ++ texts.integer_text number) }
+    ensures range { IsInteger number }
 {
     let mut buffer = Buffer::new();
     text.push_slice(b"i:")?;
@@ -47,13 +50,24 @@ fn push_integer(text: &mut Bytes, number: i64) -> Result<(), AllocError>
     text.push_slice(b";")
 }
 
-// Puts a text last.
+// Puts bytes as a text last.
 fn push_bytes(text: &mut Bytes, bytes: &[u8]) -> Result<(), AllocError>
-    ensures { OnOk result (text.new ≡ text.old ++ texts.bytes_text bytes.now) }
+    ensures text { OnOk result (text.new ≡ text.old ++ texts.bytes_text bytes.now) }
+    ensures count { IsCount (length bytes.now) }
 {
+    let _count = bytes.len();
     text.push_slice(b"s:")?;
     push_quoted(text, bytes)?;
     text.push_slice(b";")
+}
+
+// Puts a text without its labels last.
+fn push_text(text: &mut Bytes, value: &LText) -> Result<(), AllocError>
+    ensures text { OnOk result (text.new ≡ text.old ++ texts.bytes_text (bytes_of value.now)) }
+    ensures short { length value.now ≤ LONGEST }
+{
+    let _short = value.len();
+    push_bytes(text, value.bytes())
 }
 
 fn push_boolean(text: &mut Bytes, b: bool) -> Result<(), AllocError>
@@ -67,7 +81,8 @@ fn push_boolean(text: &mut Bytes, b: bool) -> Result<(), AllocError>
 }
 
 fn push_key(text: &mut Bytes, key: &Key) -> Result<(), AllocError>
-    ensures { OnOk result (text.new ≡ text.old ++ texts.key_text key.now) }
+    ensures text { OnOk result (text.new ≡ text.old ++ texts.key_text key.now) }
+    ensures whole { IsWholeKey key.now }
 {
     match key {
         Key::Int(number) => push_integer(text, *number),
@@ -84,7 +99,7 @@ fn push_value(text: &mut Bytes, value: &Value, room: usize) -> Result<(), Freeze
         Value::Null => text.push_slice(b"N;")?,
         Value::Bool(b) => push_boolean(text, *b)?,
         Value::Int(number, _) => push_integer(text, *number)?,
-        Value::Text(bytes) => push_bytes(text, bytes.bytes())?,
+        Value::Text(bytes) => push_text(text, bytes)?,
         Value::Arr(array) => return push_array(text, array, room),
         Value::Obj(_) => return Err(FreezeFault::NotStorable),
     }
@@ -102,7 +117,8 @@ fn push_array(text: &mut Bytes, array: &Arr, room: usize) -> Result<(), FreezeFa
     text.push_slice(b"a:")?;
     push_number(text, array.len())?;
     text.push_slice(b":{")?;
-    push_pairs(text, array, room - 1)?;
+    let inner = room - 1;
+    push_pairs(text, array, inner)?;
     text.push(b'}')?;
     Ok(())
 }
@@ -154,7 +170,7 @@ fn freeze_fields(alloc: Global, class: &[u8], fields: &Fields) -> Result<Frozen,
     push_head(&mut text, class, fields.len())?;
     push_fields(&mut text, fields)?;
     text.push(b'}')?;
-    Ok(Frozen::kept(text))
+    Ok(Frozen::kept(SharedBytes::from_slice(alloc, text.as_slice())?))
 }
 
 // The text of a class and pairs.
@@ -168,7 +184,7 @@ fn freeze_pairs(alloc: Global, class: &[u8], pairs: &Arr) -> Result<Frozen, Free
     push_head(&mut text, class, pairs.len())?;
     push_pairs(&mut text, pairs, 8)?;
     text.push(b'}')?;
-    Ok(Frozen::kept(text))
+    Ok(Frozen::kept(SharedBytes::from_slice(alloc, text.as_slice())?))
 }
 
 // The value of the field of a name.

@@ -1,5 +1,10 @@
 //! Policy texts.
-ghost use Rattle.std.specs.Prelude.{◌≡◌, true, IfOk};
+ghost use Rattle.std.specs.Prelude.{◌≡◌, true, nat_eq, IfOk};
+ghost use Rattle.std.specs.Hash as fed;
+ghost use Rattle.std.specs.Cmp.{partial_equiv_from_equiv};
+ghost use Rattle.std.specs.Cmp.Lexicographic.{pointwise, nat_list_eq_equiv};
+ghost use Rattle.std.specs.Cmp.Rules.{hashing};
+ghost use Rattle.std.proofs.Common.{rules};
 ghost use Rattle.std.specs.List.{list_all};
 ghost use Rattle.resin_value.specs.declared.key.Key.TheVariants.{Text};
 ghost use Rattle.resin_frozen.specs.Policies.{IsPolicyText, is_field_key, pairs_of, Says};
@@ -10,14 +15,16 @@ use crate::policy::read_policy;
 use crate::rest::Rest;
 use crate::stop::Stop;
 use resin_bytes::Bytes;
+use resin_items::SharedBytes;
 use resin_value::{Arr, Fields, Key};
 use std::alloc::{AllocError, Global};
+use std::hash::{Hash, Hasher};
 use std::marker::Model;
 
 /// A policy text: the class of a policy and its fields. Contracts see its bytes.
 #[derive(Drop)]
 pub struct Frozen {
-    bytes: Bytes,
+    bytes: SharedBytes,
 }
 
 impl Model for Frozen {
@@ -33,7 +40,7 @@ impl Model for Frozen {
 
 impl Frozen {
     // The text that these bytes are.
-    pub(crate) fn kept(bytes: Bytes) -> Frozen
+    pub(crate) fn kept(bytes: SharedBytes) -> Frozen
         requires { IsPolicyText bytes }
         ensures { result ≡ bytes }
     {
@@ -55,18 +62,43 @@ impl Frozen {
         let bytes = rest.bytes();
         read_policy(alloc, rest)?;
         let len = bytes.len() - rest.bytes().len();
-        let bytes = Bytes::from_slice(alloc, &bytes[..len])?;
-        Ok(Frozen::kept(bytes))
+        let text = SharedBytes::from_slice(alloc, &bytes[..len])?;
+        Ok(Frozen::kept(text))
     }
 }
 
-impl Frozen {
-    /// A copy of the text.
-    pub fn copied(&self, alloc: Global) -> Result<Frozen, AllocError>
-        ensures { IfOk result (λ copy. copy ≡ self.now) }
-    {
-        let bytes = Bytes::from_slice(alloc, self.as_slice())?;
-        Ok(Frozen::kept(bytes))
+impl Clone for Frozen {
+    ghost is_clone = { λ f copy. copy ≡ f };
+
+    /// One more owner of the same bytes. It fails only where the count of owners is full.
+    fn clone(&self) -> Result<Frozen, AllocError> {
+        Ok(Frozen {
+            bytes: self.bytes.clone()?,
+        })
+    }
+}
+
+impl PartialEq for Frozen {
+    ghost eq = { pointwise nat_eq };
+
+    ghost laws = { partial_equiv_from_equiv nat_list_eq_equiv };
+
+    fn eq(&self, other: &Frozen) -> bool {
+        self.bytes.as_slice() == other.bytes.as_slice()
+    }
+}
+
+impl Eq for Frozen {
+    ghost laws = { nat_list_eq_equiv };
+}
+
+impl Hash for Frozen {
+    ghost hash_input = { fed.slice fed.u8 };
+
+    ghost respects_eq = { Prim.search (hashing, rules) };
+
+    fn hash<H: Hasher>(&self, state: &mut H) {
+        self.bytes.as_slice().hash(state);
     }
 }
 

@@ -1,6 +1,9 @@
 //! Reading keys and names.
-ghost use Rattle.std.specs.Prelude.{◌≡◌, IfOk, true, IsTrue};
-ghost use Rattle.std.specs.List.{list_all};
+ghost use Rattle.std.specs.Prelude.{◌≡◌, ◌++◌, ◌∷◌, [], IfOk, true, IsTrue, ◌&&◌, nat_le, length};
+ghost use Rattle.resin_lstr.specs.Texts.{LONGEST};
+ghost use Rattle.std.specs.List.{list_all, IsDistinct};
+ghost use Rattle.std.specs.Str.{bytes_eq};
+ghost use Rattle.resin_frozen.specs.Policies.{HasFieldNames};
 ghost use Rattle.resin_scan.specs.Bytes as kind;
 ghost use Rattle.resin_value.specs.Keys.{is_lawful};
 ghost use Rattle.resin_frozen.specs.Policies as policies;
@@ -9,9 +12,11 @@ ghost use Rattle.resin_frozen.specs.Reads.{Reads};
 
 use crate::rest::Rest;
 use crate::stop::Stop;
+use resin_lstr::MAX_LEN;
 use resin_scan::bytes::{begins_name, is_name_byte};
-use resin_value::{Key, KeyText};
-use std::alloc::Global;
+use indexmap::IndexSet;
+use resin_value::{Fields, Key, KeyText};
+use std::alloc::{AllocError, Global};
 
 /// Which keys may stand in pairs.
 #[derive(Clone, Copy, Debug, PartialEq, Eq)]
@@ -89,4 +94,34 @@ pub(crate) fn read_key(alloc: Global, rest: &mut Rest<'_>, keys: Keys) -> Result
     } else {
         Err(Stop::Form)
     }
+}
+
+/// Whether bytes are the name of a class that a policy text can hold: a name, at most 16,777,216 bytes long.
+pub fn is_class(class: &[u8]) -> bool
+    ensures { result ≡ (policies.is_name class.now && nat_le (length class.now) LONGEST) }
+{
+    is_name(class) && class.len() <= MAX_LEN
+}
+
+/// Whether fields have names, no two the same, as the fields of an object do.
+pub fn are_fields(alloc: Global, fields: &Fields) -> Result<bool, AllocError>
+    ensures { IfOk result (λ are. are ≡ true → HasFieldNames fields.now) }
+{
+    let fields = fields.as_slice();
+    let mut names = IndexSet::new(alloc);
+    for (name, _) in fields {
+        if !is_name(name.as_slice()) || !is_new(alloc, &mut names, name.as_slice())? {
+            return Ok(false);
+        }
+    }
+    Ok(true)
+}
+
+// Puts a name into a set, and tells whether it is new there.
+fn is_new(alloc: Global, names: &mut IndexSet<KeyText>, name: &[u8]) -> Result<bool, AllocError>
+    ensures { IfOk result (λ new. new ≡ true → names.new.keys ≡ names.old.keys ++ name.now ∷ []) }
+    ensures unique { IsDistinct bytes_eq names.new.keys }
+{
+    let (_, new) = names.insert_full(KeyText::from_slice(alloc, name)?)?;
+    Ok(new)
 }

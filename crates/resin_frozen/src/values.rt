@@ -17,7 +17,8 @@ use std::alloc::Global;
 // What stands behind `b:`.
 #[tactic(auto, unfolding(crate::specs::Reading::boolean_behind))]
 fn read_boolean(rest: &mut Rest<'_>) -> Result<Value, Stop>
-    ensures { ReadsValue (spec.boolean_behind rest.old) result rest.new }
+    ensures reads { ReadsValue (spec.boolean_behind rest.old) result rest.new }
+    ensures low { IfOk result (λ v. height_in (tree_of v) ≤ 1) }
 {
     let word = rest.take(2)?;
     if word == b"0;".as_slice() {
@@ -43,7 +44,8 @@ fn plain(alloc: Global, bytes: &[u8]) -> Result<LText, Stop>
 // What stands behind `s:`.
 #[tactic(auto, unfolding(crate::specs::Reading::text_behind))]
 fn read_text(alloc: Global, rest: &mut Rest<'_>) -> Result<Value, Stop>
-    ensures { ReadsValue (spec.text_behind rest.old) result rest.new }
+    ensures reads { ReadsValue (spec.text_behind rest.old) result rest.new }
+    ensures low { IfOk result (λ v. height_in (tree_of v) ≤ 1) }
 {
     let bytes = rest.counted()?;
     let text = plain(alloc, bytes)?;
@@ -85,7 +87,8 @@ pub(crate) fn read_value(alloc: Global, rest: &mut Rest<'_>, room: usize) -> Res
     if room == 0 {
         return Err(Stop::Form);
     }
-    let array = read_braced(alloc, rest, room - 1, Keys::Lawful)?;
+    let inner = room - 1;
+    let array = read_braced(alloc, rest, inner, Keys::Lawful)?;
     Ok(Value::Arr(array))
 }
 

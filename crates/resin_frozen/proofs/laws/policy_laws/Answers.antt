@@ -1,4 +1,4 @@
-use Rattle.resin_frozen.proofs.Laws.{says_one_policy, reads_policies, finds_texts}
+use Rattle.resin_frozen.proofs.One_text.{says_one_policy, reads_policies, finds_texts}
 use Rattle.resin_frozen.proofs.laws.policy_laws.Goals as goal
 
 pub returns-clause-one : goal.returns-clause-one
