@@ -14,7 +14,7 @@ use Rattle.resin_value.specs.Changes.{lookup, IsApart, AreLawful, IsArray}
 use Rattle.resin_value.specs.Seen.{tree_of}
 use Rattle.resin_value.specs.Values.{FieldList}
 use Rattle.resin_frozen.specs.Texts as texts
-use Rattle.resin_frozen.specs.Texts.{key_text, value_text, pairs_text, bytes_text}
+use Rattle.resin_frozen.specs.Texts.{key_text, value_text, pairs_text, bytes_text, policy_head, policy_text}
 use Rattle.resin_frozen.specs.declared.fault.FreezeFault.{FreezeFault}
 use Rattle.resin_frozen.specs.declared.fault.FreezeFault.TheVariants.{NotStorable, Memory}
 use Rattle.resin_frozen.specs.Reads.{Writes}
@@ -183,3 +183,8 @@ pub fields_policy : (class : List ℕ) (fs : FieldList) → is_name class ≡ tr
 fields_policy class fs name short names count whole =
     let len = length_pairs fs in
     record { class_name = name; class_short = short; field_names = named_fields fs names.names; count = omega (arith, len, count); apart = apart_fields fs names.distinct; whole = whole }
+
+-- the text that is written of a class and pairs
+pub policy_from : (one two new class : List ℕ) (n : ℕ) (es : EntryList) → one ≡ policy_head class n → two ≡ one ++ pairs_text (row_of es) → new ≡ two ++ 125 ∷ [] → n ≡ length es → new ≡ policy_text class es
+policy_from one two new class n es a b c e =
+    c ∙ ap (λ u. u ++ 125 ∷ []) (b ∙ ap (λ u. u ++ pairs_text (row_of es)) (a ∙ ap (policy_head class) e)) ∙ append_assoc (policy_head class (length es)) (pairs_text (row_of es)) (125 ∷ [])

@@ -1,13 +1,18 @@
 -- The laws of policy texts.
-use Rattle.std.proofs.Common.{◌≡◌, ℕ, ◌-◌, List, [], ◌∷◌, ◌++◌, length, take, Some, refl, sym, ap, subst, ◌∙◌, arith, length-append}
+use Rattle.std.proofs.Common.{◌≡◌, ℕ, ◌-◌, ◌≤◌, true, List, [], ◌∷◌, ◌++◌, length, take, Some, None, Err, refl, sym, ap, subst, ◌∙◌, arith, length-append}
 use Rattle.std.specs.Prelude.{◌↔◌}
+use Rattle.std.specs.List.{list_all}
+use Rattle.resin_value.specs.Values.{FieldList}
+use Rattle.resin_frozen.specs.declared.stop.Stop.{Stop}
+use Rattle.resin_frozen.specs.declared.stop.Stop.TheVariants.{Form, Memory}
+use Rattle.resin_frozen.specs.Reads.{Reads, ReadsPolicy}
 use Rattle.resin_scan.proofs.Runs.{take_front}
 use Rattle.resin_value.specs.Arrays.{EntryList}
 use Rattle.resin_frozen.specs.Texts.{policy_text}
-use Rattle.resin_frozen.specs.Policies.{IsPolicy, IsPolicyText, kept_pairs}
+use Rattle.resin_frozen.specs.Policies.{IsPolicy, IsPolicyText, kept_pairs, pairs_of, is_field_key, Says}
 use Rattle.resin_frozen.specs.Reading.{Policy, and_then, policy, front}
 use Rattle.resin_frozen.specs.Laws.{SaysOnePolicy, ReadsPolicies, FindsTexts}
-use Rattle.resin_frozen.proofs.Numbers.{from_some}
+use Rattle.resin_frozen.proofs.Numbers.{from_some, none_some}
 use Rattle.resin_frozen.proofs.Parts.{bound, on}
 use Rattle.resin_frozen.proofs.Written.{policy-policy}
 use Rattle.resin_frozen.proofs.Back.{policy_read}
@@ -49,3 +54,38 @@ front_read xs w rest e =
 
 pub finds_texts : FindsTexts
 finds_texts xs w rest = (front_read xs w rest, λ h. front_is xs w rest h.1 h.0)
+
+-- ---- what is read from the front, by the policy that stands there
+pub front_fails : (xs new after : List ℕ) (stop : Stop) → ReadsPolicy (policy xs) (Err stop) new → Reads (front xs) (Err stop) after
+unfolding front
+front_fails xs new after Form h = ap (λ o. and_then o (λ p. Some (take (length xs - length p.1) xs, p.1))) h
+front_fails xs new after Memory h = tt
+
+pub front_found : (xs new : List ℕ) (p : Policy) → policy xs ≡ Some (p, new) → front xs ≡ Some (take (length xs - length new) xs, new)
+unfolding front
+front_found xs new p h = on (λ p. Some (take (length xs - length p.1) xs, p.1)) h
+
+pub behind_short : (xs new : List ℕ) (p : Policy) → policy xs ≡ Some (p, new) → length new ≤ length xs
+behind_short xs new p h =
+    let r = policy_read xs p.0 p.1 new h in
+    let l = ap length r.told in
+    omega (arith, l, length-append (policy_text p.0 p.1) new)
+
+-- ---- what a policy text says
+pub text_whole : (xs : List ℕ) (h : IsPolicyText xs) → policy xs ≡ Some ((h.class, kept_pairs h.fields), [])
+text_whole xs h = ap policy (sym (nothing_behind xs) ∙ ap (λ w. w ++ []) h.text_is) ∙ policy-policy h.class h.fields [] h.is_policy
+
+pub says : (xs new class : List ℕ) (es : EntryList) (fields : FieldList) → IsPolicyText xs → policy xs ≡ Some ((class, es), new) → pairs_of fields ≡ es → Says xs class fields
+says xs new class es fields h e f =
+    let r = policy_read xs class es new e in
+    let last : new ≡ [] = ap (λ q. q.1) (from_some ((class, es), new) ((h.class, kept_pairs h.fields), []) (sym e ∙ text_whole xs h)) in
+    record {
+      text_is = r.told ∙ ap (λ u. policy_text class es ++ u) last ∙ nothing_behind (policy_text class es) ∙ ap (policy_text class) (sym f);
+      are_kept = subst (λ fs. kept_pairs fs ≡ fs) (sym f) r.same;
+    }
+
+pub names_of : (xs new class : List ℕ) (es : EntryList) → policy xs ≡ Some ((class, es), new) → list_all (λ e. is_field_key e.0) es ≡ true
+names_of xs new class es e = (policy_read xs class es new e).is_policy.field_names
+
+pub is_read : (xs : List ℕ) → IsPolicyText xs → policy xs ≡ None → ⊥
+is_read xs h e = none_some ((h.class, kept_pairs h.fields), []) (sym e ∙ text_whole xs h)

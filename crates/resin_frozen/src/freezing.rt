@@ -1,5 +1,5 @@
 //! Writing policy texts.
-ghost use Rattle.std.specs.Prelude.{◌≡◌, ◌≤◌, ◌++◌, OnOk, Some, true, length, decimal, option_copied};
+ghost use Rattle.std.specs.Prelude.{◌≡◌, ◌≤◌, ◌++◌, OnOk, IfOk, Some, true, length, decimal, option_copied};
 ghost use Rattle.std.specs.List.{list_all};
 ghost use Rattle.std.specs.Map.{lookup};
 ghost use Rattle.std.specs.Str.{bytes_eq};
@@ -7,7 +7,7 @@ ghost use Rattle.resin_lstr.specs.Texts.{LONGEST, bytes_of};
 ghost use Rattle.resin_value.specs.Arrays.{row_of};
 ghost use Rattle.resin_value.specs.Seen.{tree_of};
 ghost use Rattle.resin_frozen.specs.Texts as texts;
-ghost use Rattle.resin_frozen.specs.Policies.{ROOM, IsCount, IsInteger, IsWholeKey, is_name, is_field_key, is_storable, are_storable, IsWhole, AreWhole, pairs_of, lost, named, text_of, frozen, HasFieldNames, tree_of_array};
+ghost use Rattle.resin_frozen.specs.Policies.{ROOM, IsPolicyText, IsCount, IsInteger, IsWholeKey, is_name, is_field_key, is_storable, are_storable, IsWhole, AreWhole, pairs_of, lost, named, text_of, frozen, HasFieldNames, tree_of_array};
 ghost use Rattle.resin_frozen.specs.Reads.{Writes, Freezes};
 
 use crate::fault::FreezeFault;
@@ -158,19 +158,32 @@ fn push_head(text: &mut Bytes, class: &[u8], count: usize) -> Result<(), AllocEr
     text.push_slice(b":{")
 }
 
+// The text that was written, in shared hands.
+fn finished(alloc: Global, text: &Bytes) -> Result<Frozen, AllocError>
+    requires { IsPolicyText text.now }
+    ensures { IfOk result (λ f. f ≡ text.now) }
+{
+    let bytes = SharedBytes::from_slice(alloc, text.as_slice())?;
+    Ok(Frozen::kept(bytes))
+}
+
 // The text of a class and its fields.
-fn freeze_fields(alloc: Global, class: &[u8], fields: &Fields) -> Result<Frozen, FreezeFault>
+fn freeze_fields(
+    alloc: Global,
+    class: &[u8],
+    fields: &[(Bytes, Value)],
+) -> Result<Frozen, FreezeFault>
     requires name { is_name class.now ≡ true }
     requires short { length class.now ≤ LONGEST }
     requires names { HasFieldNames fields.now }
     ensures { Freezes (text_of (Some (class.now, pairs_of fields.now))) result }
 {
-    let fields = fields.as_slice();
+    let count = fields.len();
     let mut text = Bytes::new(alloc);
-    push_head(&mut text, class, fields.len())?;
+    push_head(&mut text, class, count)?;
     push_fields(&mut text, fields)?;
     text.push(b'}')?;
-    Ok(Frozen::kept(SharedBytes::from_slice(alloc, text.as_slice())?))
+    Ok(finished(alloc, &text)?)
 }
 
 // The text of a class and pairs.
@@ -180,11 +193,12 @@ fn freeze_pairs(alloc: Global, class: &[u8], pairs: &Arr) -> Result<Frozen, Free
     requires names { list_all (λ e. is_field_key e.0) pairs.now.entries ≡ true }
     ensures { Freezes (text_of (Some (class.now, pairs.now.entries))) result }
 {
+    let count = pairs.len();
     let mut text = Bytes::new(alloc);
-    push_head(&mut text, class, pairs.len())?;
+    push_head(&mut text, class, count)?;
     push_pairs(&mut text, pairs, 8)?;
     text.push(b'}')?;
-    Ok(Frozen::kept(SharedBytes::from_slice(alloc, text.as_slice())?))
+    Ok(finished(alloc, &text)?)
 }
 
 // The value of the field of a name.
@@ -250,6 +264,6 @@ pub fn freeze(alloc: Global, class: &[u8], fields: &Fields) -> Result<Frozen, Fr
     if class == b"LostPolicy".as_slice() {
         freeze_lost(alloc, fields)
     } else {
-        freeze_fields(alloc, class, fields)
+        freeze_fields(alloc, class, fields.as_slice())
     }
 }

@@ -119,7 +119,7 @@ pub fn are_fields(alloc: Global, fields: &Fields) -> Result<bool, AllocError>
 
 // Puts a name into a set, and tells whether it is new there.
 fn is_new(alloc: Global, names: &mut IndexSet<KeyText>, name: &[u8]) -> Result<bool, AllocError>
-    ensures { IfOk result (λ new. new ≡ true → names.new.keys ≡ names.old.keys ++ name.now ∷ []) }
+    ensures added { IfOk result (λ new. new ≡ true → names.new.keys ≡ names.old.keys ++ name.now ∷ []) }
     ensures unique { IsDistinct bytes_eq names.new.keys }
 {
     let (_, new) = names.insert_full(KeyText::from_slice(alloc, name)?)?;

@@ -16,5 +16,5 @@ pub use freezing::freeze;
 pub use frozen::{Frozen, thaw};
 pub use keys::{are_fields, is_class};
 pub use laws::policy_laws;
-pub use rest::Rest;
+pub use rest::{Rest, number};
 pub use stop::Stop;

@@ -1,13 +1,12 @@
 //! Reading policy texts.
-ghost use Rattle.std.specs.Prelude.{◌≡◌, IfOk};
+ghost use Rattle.std.specs.Prelude.{◌≡◌};
 ghost use Rattle.resin_frozen.specs.Reading as spec;
 ghost use Rattle.resin_frozen.specs.Reads.{Lends, ReadsPolicy};
 
-use crate::keys::{Keys, is_name};
+use crate::keys::{Keys, is_class};
 use crate::rest::Rest;
 use crate::stop::Stop;
 use crate::values::read_braced;
-use resin_lstr::MAX_LEN;
 use resin_value::Arr;
 use std::alloc::Global;
 
@@ -17,7 +16,7 @@ fn read_class<'a>(rest: &mut Rest<'a>) -> Result<&'a [u8], Stop>
     ensures { Lends (spec.class rest.old) result rest.new }
 {
     let class = rest.quoted()?;
-    if is_name(class) && class.len() <= MAX_LEN {
+    if is_class(class) {
         Ok(class)
     } else {
         Err(Stop::Form)

@@ -125,9 +125,9 @@ fn place_of(bytes: &[u8], wanted: u8) -> Option<usize>
     bytes.iter().position(|b| *b == wanted)
 }
 
-// The number of 64 bits that a word is.
+/// The number of 64 bits that a word is, in decimal without a zero in front.
 #[tactic(auto, unfolding(crate::specs::Reading::number))]
-fn number(word: &[u8]) -> Result<u64, Stop>
+pub fn number(word: &[u8]) -> Result<u64, Stop>
     ensures { Is (spec.number word.now) result }
 {
     let value = value_of(word);

@@ -17,4 +17,4 @@ decreases-read_pair l = 4 * l.room + 1
 
 abbrev pub invariant-read_pairs-loop-i : goal.invariant-read_pairs-loop-i
 invariant-read_pairs-loop-i l =
-    (pairs (value l.room) l.keys (l.count - l.i) l.array l.rest ≡ pairs (value l.room) l.keys l.count l.initial.array l.initial.rest) × (l.array.height ≤ l.room + 1)
+    (pairs (value l.room) l.keys (l.count - l._i) l.array l.rest ≡ pairs (value l.room) l.keys l.count l.initial.array l.initial.rest) × (l.array.height ≤ l.room + 1)

@@ -1,0 +1,4 @@
+pub mod Marks
+pub mod Shadows
+pub mod Answers
+pub mod Laws
