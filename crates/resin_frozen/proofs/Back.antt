@@ -15,8 +15,8 @@ use Rattle.resin_frozen.specs.declared.keys.Keys.TheVariants.{Lawful, Names}
 use Rattle.resin_frozen.specs.Texts as texts
 use Rattle.resin_frozen.specs.Texts.{value_text, pairs_text, key_text, policy_text}
 use Rattle.resin_frozen.specs.Policies.{ROOM, IsWhole, AreWhole, IsWholeKey, IsCount, IsPolicy, is_name, is_field_key, kept, filled, tree_of_array, kept_pairs}
-use Rattle.resin_frozen.specs.Reading.{Read, and_then, is_text, taken, literal, natural, quoted, bytes_behind, integer_behind, boolean_behind, plain_text, text_behind, key, is_fit, pair, pairs, braced, array_behind, scalar_behind, value_with, value, class, policy}
-use Rattle.resin_frozen.proofs.Numbers.{and_left, and_right, from_some, none_some, some_if, chosen}
+use Rattle.resin_frozen.specs.Reading.{Read, Policy, and_then, is_text, taken, literal, natural, quoted, bytes_behind, integer_behind, boolean_behind, plain_text, text_behind, key, is_fit, pair, pairs, braced, array_behind, scalar_behind, value_with, value, class, policy}
+use Rattle.resin_frozen.proofs.Numbers.{Gives, and_left, and_right, from_some, none_some, some_if, chosen}
 use Rattle.resin_frozen.proofs.Parts.{bound, by_kind, taken_read, literal_read, natural_read, quoted_read, integer_read, bytes_read, key_read}
 use Rattle.resin_frozen.proofs.Written.{policy_parts}
 use Rattle.resin_frozen.proofs.Pairs.{Fresh, AreFit, apart_from, filled_entries, lawful_fit, names_fit, row_of-entries_of}
@@ -142,7 +142,7 @@ braced_read V room H keys xs b rest e =
 
 -- ---- values
 -- what was read, where its text is known
-told_as : (room : ℕ) (xs left : List ℕ) (t u : Tree) (rest : List ℕ) → Some (u, left) ≡ Some (t, rest) → xs ≡ value_text u ++ left → IsWhole room u → kept u ≡ u → IsTold room xs t rest
+told_as : (room : ℕ) (xs left : List ℕ) (t u : Tree) (rest : List ℕ) → Gives {A = Tree} (Some (u, left)) t rest → xs ≡ value_text u ++ left → IsWhole room u → kept u ≡ u → IsTold room xs t rest
 told_as room xs left t u rest e told whole same =
     let p = from_some (u, left) (t, rest) e in
     record {
@@ -151,7 +151,7 @@ told_as room xs left t u rest e told whole same =
       same = subst (λ v. kept v ≡ v) (ap (λ q. q.0) p) same;
     }
 
-nothing_told : {P : Type 0} (t : Tree) (rest : List ℕ) → None ≡ Some (t, rest) → P
+nothing_told : {P : Type 0} (t : Tree) (rest : List ℕ) → Gives {A = Tree} None t rest → P
 nothing_told t rest e = absurd (none_some (t, rest) e)
 
 boolean_read : (xs : List ℕ) (t : Tree) (rest : List ℕ) (room : ℕ) → boolean_behind xs ≡ Some (t, rest) → IsTold room (codes "b:" ++ xs) t rest
@@ -160,11 +160,11 @@ boolean_read xs t rest room e =
     let w = bound (taken 2 xs) (λ t. cond (is_text t.0 (codes "0;")) (Some (boolean false, t.1)) (cond (is_text t.0 (codes "1;")) (Some (boolean true, t.1)) None)) (t, rest) e in
     by w.0.0 w.0.1 (taken_read 2 xs w.0.0 w.0.1 w.1).0 (by_kind w.0.0 (codes "0;") _ _ (t, rest) w.2)
   where
-    by_one : (word left : List ℕ) → xs ≡ word ++ left → ((word ≡ codes "1;") × (Some (boolean true, left) ≡ Some (t, rest))) ⊎ (None ≡ Some (t, rest)) → IsTold room (codes "b:" ++ xs) t rest
+    by_one : (word left : List ℕ) → xs ≡ word ++ left → ((word ≡ codes "1;") × Gives {A = Tree} (Some (boolean true, left)) t rest) ⊎ Gives {A = Tree} None t rest → IsTold room (codes "b:" ++ xs) t rest
     by_one word left front (inl h) = told_as room (codes "b:" ++ xs) left t (boolean true) rest h.1 (ap (λ u. codes "b:" ++ u) (front ∙ ap (λ w. w ++ left) h.0)) tt refl
     by_one word left front (inr h) = nothing_told t rest h
 
-    by : (word left : List ℕ) → xs ≡ word ++ left → ((word ≡ codes "0;") × (Some (boolean false, left) ≡ Some (t, rest))) ⊎ (cond (is_text word (codes "1;")) (Some (boolean true, left)) None ≡ Some (t, rest)) → IsTold room (codes "b:" ++ xs) t rest
+    by : (word left : List ℕ) → xs ≡ word ++ left → ((word ≡ codes "0;") × Gives {A = Tree} (Some (boolean false, left)) t rest) ⊎ Gives {A = Tree} (cond (is_text word (codes "1;")) (Some (boolean true, left)) None) t rest → IsTold room (codes "b:" ++ xs) t rest
     by word left front (inl h) = told_as room (codes "b:" ++ xs) left t (boolean false) rest h.1 (ap (λ u. codes "b:" ++ u) (front ∙ ap (λ w. w ++ left) h.0)) tt refl
     by word left front (inr h) = by_one word left front (by_kind word (codes "1;") _ _ (t, rest) h)
 
@@ -198,22 +198,22 @@ scalar_read kind xs t rest room e = null_case (by_kind kind (codes "N;") _ _ (t,
     at : (word : List ℕ) → kind ≡ word → IsTold room (word ++ xs) t rest → IsTold room (kind ++ xs) t rest
     at word h p = subst (λ w. IsTold room (w ++ xs) t rest) (sym h) p
 
-    text_case : ((kind ≡ codes "s:") × (text_behind xs ≡ Some (t, rest))) ⊎ (None ≡ Some (t, rest)) → IsTold room (kind ++ xs) t rest
+    text_case : ((kind ≡ codes "s:") × (text_behind xs ≡ Some (t, rest))) ⊎ Gives {A = Tree} None t rest → IsTold room (kind ++ xs) t rest
     text_case (inl h) = at (codes "s:") h.0 (text_read xs t rest room h.1)
     text_case (inr h) = nothing_told t rest h
 
-    integer_case : ((kind ≡ codes "i:") × (and_then (integer_behind xs) (λ n. Some (integer n.0 no_labels, n.1)) ≡ Some (t, rest))) ⊎ (cond (is_text kind (codes "s:")) (text_behind xs) None ≡ Some (t, rest)) → IsTold room (kind ++ xs) t rest
+    integer_case : ((kind ≡ codes "i:") × Gives {A = Tree} (and_then (integer_behind xs) (λ n. Some (integer n.0 no_labels, n.1))) t rest) ⊎ Gives {A = Tree} (cond (is_text kind (codes "s:")) (text_behind xs) None) t rest → IsTold room (kind ++ xs) t rest
     integer_case (inl h) =
         let n = bound (integer_behind xs) (λ n. Some (integer n.0 no_labels, n.1)) (t, rest) h.1 in
         let r = integer_read xs n.0.0 n.0.1 n.1 in
         at (codes "i:") h.0 (told_as room (codes "i:" ++ xs) n.0.1 t (integer n.0.0 no_labels) rest n.2 (ap (λ v. codes "i:" ++ v) r.0) r.1 refl)
     integer_case (inr h) = text_case (by_kind kind (codes "s:") _ _ (t, rest) h)
 
-    boolean_case : ((kind ≡ codes "b:") × (boolean_behind xs ≡ Some (t, rest))) ⊎ (cond (is_text kind (codes "i:")) (and_then (integer_behind xs) (λ n. Some (integer n.0 no_labels, n.1))) (cond (is_text kind (codes "s:")) (text_behind xs) None) ≡ Some (t, rest)) → IsTold room (kind ++ xs) t rest
+    boolean_case : ((kind ≡ codes "b:") × (boolean_behind xs ≡ Some (t, rest))) ⊎ Gives {A = Tree} (cond (is_text kind (codes "i:")) (and_then (integer_behind xs) (λ n. Some (integer n.0 no_labels, n.1))) (cond (is_text kind (codes "s:")) (text_behind xs) None)) t rest → IsTold room (kind ++ xs) t rest
     boolean_case (inl h) = at (codes "b:") h.0 (boolean_read xs t rest room h.1)
     boolean_case (inr h) = integer_case (by_kind kind (codes "i:") _ _ (t, rest) h)
 
-    null_case : ((kind ≡ codes "N;") × (Some (null, xs) ≡ Some (t, rest))) ⊎ (cond (is_text kind (codes "b:")) (boolean_behind xs) (cond (is_text kind (codes "i:")) (and_then (integer_behind xs) (λ n. Some (integer n.0 no_labels, n.1))) (cond (is_text kind (codes "s:")) (text_behind xs) None)) ≡ Some (t, rest)) → IsTold room (kind ++ xs) t rest
+    null_case : ((kind ≡ codes "N;") × Gives {A = Tree} (Some (null, xs)) t rest) ⊎ Gives {A = Tree} (cond (is_text kind (codes "b:")) (boolean_behind xs) (cond (is_text kind (codes "i:")) (and_then (integer_behind xs) (λ n. Some (integer n.0 no_labels, n.1))) (cond (is_text kind (codes "s:")) (text_behind xs) None))) t rest → IsTold room (kind ++ xs) t rest
     null_case (inl h) = at (codes "N;") h.0 (told_as room (codes "N;" ++ xs) xs t null rest h.1 refl tt refl)
     null_case (inr h) = boolean_case (by_kind kind (codes "b:") _ _ (t, rest) h)
 
@@ -265,7 +265,7 @@ pub record PolicyRead (xs c : List ℕ) (es : EntryList) (rest : List ℕ) : Typ
   pub is_policy : IsPolicy c es
   pub same : kept_pairs es ≡ es
 
-policy_known : (xs c d : List ℕ) (b : Array) (es : EntryList) (left rest : List ℕ) → Some ((d, b.entries), left) ≡ Some ((c, es), rest) → xs ≡ policy_text d b.entries ++ left → IsPolicy d b.entries → kept_pairs b.entries ≡ b.entries → PolicyRead xs c es rest
+policy_known : (xs c d : List ℕ) (b : Array) (es : EntryList) (left rest : List ℕ) → Gives {A = Policy} (Some ((d, b.entries), left)) (c, es) rest → xs ≡ policy_text d b.entries ++ left → IsPolicy d b.entries → kept_pairs b.entries ≡ b.entries → PolicyRead xs c es rest
 policy_known xs c d b es left rest e told policy same =
     let p = from_some ((d, b.entries), left) ((c, es), rest) e in
     record {

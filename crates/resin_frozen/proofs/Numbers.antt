@@ -55,6 +55,10 @@ from_some a b e = cc
 pub none_some : {A : Type 0} (a : A) → None ≡ Some a → ⊥
 none_some a e = cc
 
+-- a value that is read, with what is behind it
+abbrev pub Gives : {A : Type 0} → Option (A × List ℕ) → A → List ℕ → Type 0
+Gives o a rest = o ≡ Some (a, rest)
+
 pub some_if : {A : Type 0} (b : Bool) (a r : A) → cond b (Some a) None ≡ Some r → (b ≡ true) × (a ≡ r)
 some_if true a r e = (refl, from_some a r e)
 some_if false a r e = absurd (none_some r e)

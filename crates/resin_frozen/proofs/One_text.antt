@@ -5,7 +5,7 @@ use Rattle.std.specs.List.{list_all}
 use Rattle.resin_value.specs.Values.{FieldList}
 use Rattle.resin_frozen.specs.declared.stop.Stop.{Stop}
 use Rattle.resin_frozen.specs.declared.stop.Stop.TheVariants.{Form, Memory}
-use Rattle.resin_frozen.specs.Reads.{Reads, ReadsPolicy}
+use Rattle.resin_frozen.specs.Reads.{Reads, ReadsPolicy, Thaws}
 use Rattle.resin_scan.proofs.Runs.{take_front}
 use Rattle.resin_value.specs.Arrays.{EntryList}
 use Rattle.resin_frozen.specs.Texts.{policy_text}
@@ -75,17 +75,18 @@ behind_short xs new p h =
 pub text_whole : (xs : List ℕ) (h : IsPolicyText xs) → policy xs ≡ Some ((h.class, kept_pairs h.fields), [])
 text_whole xs h = ap policy (sym (nothing_behind xs) ∙ ap (λ w. w ++ []) h.text_is) ∙ policy-policy h.class h.fields [] h.is_policy
 
-pub says : (xs new class : List ℕ) (es : EntryList) (fields : FieldList) → IsPolicyText xs → policy xs ≡ Some ((class, es), new) → pairs_of fields ≡ es → Says xs class fields
-says xs new class es fields h e f =
+pub says : (text xs new class name : List ℕ) (es : EntryList) (fields : FieldList) → IsPolicyText text → xs ≡ text → policy xs ≡ Some ((class, es), new) → name ≡ class → pairs_of fields ≡ es → Says text name fields
+says text xs new class name es fields h same e n f =
     let r = policy_read xs class es new e in
-    let last : new ≡ [] = ap (λ q. q.1) (from_some ((class, es), new) ((h.class, kept_pairs h.fields), []) (sym e ∙ text_whole xs h)) in
+    let last : new ≡ [] = ap (λ q. q.1) (from_some ((class, es), new) ((h.class, kept_pairs h.fields), []) (sym e ∙ ap policy same ∙ text_whole text h)) in
     record {
-      text_is = r.told ∙ ap (λ u. policy_text class es ++ u) last ∙ nothing_behind (policy_text class es) ∙ ap (policy_text class) (sym f);
+      text_is = sym same ∙ r.told ∙ ap (λ u. policy_text class es ++ u) last ∙ nothing_behind (policy_text class es) ∙ ap (λ c. policy_text c es) (sym n) ∙ ap (policy_text name) (sym f);
       are_kept = subst (λ fs. kept_pairs fs ≡ fs) (sym f) r.same;
     }
 
 pub names_of : (xs new class : List ℕ) (es : EntryList) → policy xs ≡ Some ((class, es), new) → list_all (λ e. is_field_key e.0) es ≡ true
 names_of xs new class es e = (policy_read xs class es new e).is_policy.field_names
 
-pub is_read : (xs : List ℕ) → IsPolicyText xs → policy xs ≡ None → ⊥
-is_read xs h e = none_some ((h.class, kept_pairs h.fields), []) (sym e ∙ text_whole xs h)
+pub thaw_fails : (text xs new : List ℕ) (stop : Stop) → xs ≡ text → IsPolicyText text → ReadsPolicy (policy xs) (Err stop) new → Thaws text (Err stop)
+thaw_fails text xs new Form same h e = none_some ((h.class, kept_pairs h.fields), []) (sym e ∙ ap policy same ∙ text_whole text h)
+thaw_fails text xs new Memory same h e = tt

@@ -17,7 +17,7 @@ use Rattle.resin_frozen.specs.Texts.{integer_text, bytes_text, key_text}
 use Rattle.resin_frozen.specs.Policies.{IsInteger, IsCount, IsWholeKey}
 use Rattle.resin_frozen.specs.declared.keys.Keys.{Keys}
 use Rattle.resin_frozen.specs.Reading.{and_then, is_text, taken, literal, cut, number, signed, natural, quoted, integer_behind, bytes_behind, key_behind, is_fit, key}
-use Rattle.resin_frozen.proofs.Numbers.{lacks, and_left, and_right, both, text_same, text_is, from_some, none_some, some_if, chosen, number-decimal, number_read, signed-signed, signed_read, lacks-decimal, lacks-signed}
+use Rattle.resin_frozen.proofs.Numbers.{Gives, lacks, and_left, and_right, both, text_same, text_is, from_some, none_some, some_if, chosen, number-decimal, number_read, signed-signed, signed_read, lacks-decimal, lacks-signed}
 
 -- a value that was read behind another
 pub bound : {A B : Type 0} (o : Option A) (f : A → Option B) (r : B) → and_then o f ≡ Some r → (a : A) × (o ≡ Some a) × (f a ≡ Some r)
@@ -245,7 +245,7 @@ key_behind_read kind xs k rest e = elim (by_kind kind (codes "i:") _ _ (k, rest)
   | inr f ↦ texts_case (by_kind kind (codes "s:") _ _ (k, rest) f)
 ]
   where
-    texts_case : ((kind ≡ codes "s:") × (and_then (bytes_behind xs) (λ w. Some (Text w.0, w.1)) ≡ Some (k, rest))) ⊎ (None ≡ Some (k, rest)) → (kind ++ xs ≡ key_text k ++ rest) × IsWholeKey k
+    texts_case : ((kind ≡ codes "s:") × Gives {A = Key} (and_then (bytes_behind xs) (λ w. Some (Text w.0, w.1))) k rest) ⊎ Gives {A = Key} None k rest → (kind ++ xs ≡ key_text k ++ rest) × IsWholeKey k
     texts_case (inl h) =
         let n = bound (bytes_behind xs) (λ w. Some (Text w.0, w.1)) (k, rest) h.1 in
         let p = from_some (Text n.0.0, n.0.1) (k, rest) n.2 in

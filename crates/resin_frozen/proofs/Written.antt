@@ -115,7 +115,14 @@ class-class c rest name short =
 
 pub policy_parts : (c : List ℕ) (es : EntryList) (rest : List ℕ)
     → policy_text c es ++ rest ≡ codes "O:" ++ (texts.quoted c ++ (codes ":" ++ (texts.braced (length es) (pairs_text (row_of es)) ++ rest)))
-policy_parts c es rest = simp append_assoc
+policy_parts c es rest =
+    let n = length es in
+    let p = pairs_text (row_of es) in
+    let behind : List ℕ = (p ++ 125 ∷ []) ++ rest in
+    append_assoc (policy_head c n) (p ++ 125 ∷ []) rest
+    ∙ append_assoc (codes "O:") (texts.quoted c ++ (58 ∷ decimal n ++ codes ":{")) behind
+    ∙ ap (λ u. codes "O:" ++ u) (append_assoc (texts.quoted c) (58 ∷ decimal n ++ codes ":{") behind
+    ∙ ap (λ u. texts.quoted c ++ (58 ∷ u)) (append_assoc (decimal n) (codes ":{") behind ∙ sym (append_assoc (decimal n) (58 ∷ 123 ∷ p ++ 125 ∷ []) rest)))
 
 pub policy-policy : (c : List ℕ) (es : EntryList) (rest : List ℕ) → IsPolicy c es → policy (policy_text c es ++ rest) ≡ Some ((c, kept_pairs es), rest)
 unfolding policy

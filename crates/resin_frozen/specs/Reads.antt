@@ -5,6 +5,8 @@ use Rattle.resin_value.specs.declared.value.Value.{Value}
 use Rattle.resin_value.specs.Trees.{Tree}
 use Rattle.resin_value.specs.Arrays.{Array}
 use Rattle.resin_value.specs.Seen.{tree_of}
+use Rattle.resin_value.specs.Values.{FieldList}
+use Rattle.resin_frozen.specs.Policies.{Says}
 use Rattle.resin_frozen.specs.Reading.{Policy}
 use Rattle.resin_frozen.specs.declared.stop.Stop.{Stop}
 use Rattle.resin_frozen.specs.declared.stop.Stop.TheVariants as s
@@ -52,3 +54,9 @@ abbrev pub Freezes : Option (List ℕ) → Result (List ℕ) FreezeFault → Typ
 Freezes out (Ok text) = out ≡ Some text
 Freezes out (Err f.NotStorable) = out ≡ None
 Freezes out (Err f.Memory) = Unit {0}
+
+-- the class and the fields that the text says, unless memory runs out
+abbrev pub Thaws : List ℕ → Result (List ℕ × FieldList) Stop → Type 0
+Thaws text (Ok p) = Says text p.0 p.1
+Thaws text (Err s.Form) = ⊥
+Thaws text (Err s.Memory) = Unit {0}

@@ -8,7 +8,7 @@ ghost use Rattle.std.proofs.Common.{rules};
 ghost use Rattle.std.specs.List.{list_all};
 ghost use Rattle.resin_value.specs.declared.key.Key.TheVariants.{Text};
 ghost use Rattle.resin_frozen.specs.Policies.{IsPolicyText, is_field_key, pairs_of, Says};
-ghost use Rattle.resin_frozen.specs.Reads.{Reads};
+ghost use Rattle.resin_frozen.specs.Reads.{Reads, Thaws};
 ghost use Rattle.resin_frozen.specs.Reading.{front};
 
 use crate::policy::read_policy;
@@ -106,16 +106,22 @@ impl Hash for Frozen {
 pub fn thaw(alloc: Global, f: &Frozen) -> Result<(Bytes, Fields), AllocError>
     ensures { IfOk result (λ r. Says f.now r.0 r.1) }
 {
-    let mut rest = Rest::new(f.as_slice());
-    match read_policy(alloc, &mut rest) {
-        Ok((class, pairs)) => {
-            let class = Bytes::from_slice(alloc, class)?;
-            let fields = fields_of(alloc, &pairs)?;
-            Ok((class, fields))
-        }
+    match thawed(alloc, f) {
+        Ok(parts) => Ok(parts),
         Err(Stop::Memory) => Err(AllocError),
         Err(Stop::Form) => unreachable!(),
     }
+}
+
+// The same, by reading the text, which is a policy text.
+fn thawed(alloc: Global, f: &Frozen) -> Result<(Bytes, Fields), Stop>
+    ensures { Thaws f.now result }
+{
+    let mut rest = Rest::new(f.as_slice());
+    let (class, pairs) = read_policy(alloc, &mut rest)?;
+    let name = Bytes::from_slice(alloc, class)?;
+    let fields = fields_of(alloc, &pairs)?;
+    Ok((name, fields))
 }
 
 // Pairs whose keys are names as fields.

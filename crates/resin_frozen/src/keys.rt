@@ -1,5 +1,5 @@
 //! Reading keys and names.
-ghost use Rattle.std.specs.Prelude.{◌≡◌, ◌++◌, ◌∷◌, [], IfOk, true, IsTrue, ◌&&◌, nat_le, length};
+ghost use Rattle.std.specs.Prelude.{◌≡◌, ◌++◌, ◌∷◌, [], IfOk, OnOk, true, IsTrue, ◌&&◌, nat_le, length};
 ghost use Rattle.resin_lstr.specs.Texts.{LONGEST};
 ghost use Rattle.std.specs.List.{list_all, IsDistinct};
 ghost use Rattle.std.specs.Str.{bytes_eq};
@@ -120,7 +120,7 @@ pub fn are_fields(alloc: Global, fields: &Fields) -> Result<bool, AllocError>
 // Puts a name into a set, and tells whether it is new there.
 fn is_new(alloc: Global, names: &mut IndexSet<KeyText>, name: &[u8]) -> Result<bool, AllocError>
     ensures added { IfOk result (λ new. new ≡ true → names.new.keys ≡ names.old.keys ++ name.now ∷ []) }
-    ensures unique { IsDistinct bytes_eq names.new.keys }
+    ensures unique { OnOk result (IsDistinct bytes_eq names.new.keys) }
 {
     let (_, new) = names.insert_full(KeyText::from_slice(alloc, name)?)?;
     Ok(new)
