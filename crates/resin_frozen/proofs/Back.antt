@@ -1,13 +1,12 @@
 -- What is read from the front of bytes is what a text keeps, and its text stands there.
-use Rattle.std.proofs.Common.{◌≡◌, ◌⊎◌, inl, inr, ℕ, ℤ, zero, suc, ◌^◌, ◌<◌, ◌≤◌, Bool, true, false, cond, List, [], ◌∷◌, ◌++◌, length, map, Option, Some, None, decimal, codes, refl, sym, ap, subst, ◌∙◌, arith, append_assoc}
-use Rattle.std.specs.Prelude.{◌&&◌, nat_le, is_none, not, is_some}
-use Rattle.std.specs.Fmt.{signed_decimal}
+use Rattle.std.proofs.Common.{◌≡◌, ◌⊎◌, inl, inr, ℕ, zero, suc, ◌^◌, ◌<◌, ◌≤◌, true, false, cond, List, [], ◌∷◌, ◌++◌, length, Option, Some, None, decimal, codes, refl, sym, ap, subst, ◌∙◌, arith, append_assoc}
+use Rattle.std.specs.Prelude.{◌&&◌, nat_le, is_none}
 use Rattle.std.specs.List.{list_all}
 use Rattle.std.proofs.lemmas.Bool.Decides.{nat_tests}
 use Rattle.resin_label.specs.Sets.{NumberSet, empty as no_labels}
-use Rattle.resin_lstr.specs.Texts.{Text as LabelledText, LONGEST, bytes_of, carrying}
+use Rattle.resin_lstr.specs.Texts.{LONGEST, bytes_of, carrying}
 use Rattle.resin_value.specs.declared.key.Key.{Key}
-use Rattle.resin_value.specs.Trees.{Tree, Row, null, boolean, integer, text, array, object, no_entry, entry}
+use Rattle.resin_value.specs.Trees.{Tree, Row, null, boolean, integer, text, no_entry, entry}
 use Rattle.resin_value.specs.Arrays.{EntryList, Array, row_of, entries_of, entries_of-row_of}
 use Rattle.resin_value.specs.Changes.{lookup, put, empty, IsApart}
 use Rattle.resin_frozen.specs.declared.keys.Keys.{Keys}
@@ -255,10 +254,11 @@ class_read xs c rest e =
     let w = bound (quoted xs) (λ w. cond (is_name w.0 && nat_le (length w.0) LONGEST) (Some w) None) (c, rest) e in
     let h = some_if (is_name w.0.0 && nat_le (length w.0.0) LONGEST) w.0 (c, rest) w.2 in
     let short : length w.0.0 ≤ LONGEST = let k = and_right (is_name w.0.0) (nat_le (length w.0.0) LONGEST) h.0 in grind (arith, nat_tests) in
-    let same : w.0.0 ≡ c = ap (λ q. q.0) h.1 in
-    ((quoted_read xs w.0.0 w.0.1 w.1).0 ∙ ap (λ q. texts.quoted q.0 ++ q.1) h.1,
+    let same : w.0.0 ≡ c = ap (λ q. q.0) h.1 in (
+      (quoted_read xs w.0.0 w.0.1 w.1).0 ∙ ap (λ q. texts.quoted q.0 ++ q.1) h.1,
       subst (λ v. is_name v ≡ true) same (and_left (is_name w.0.0) (nat_le (length w.0.0) LONGEST) h.0),
-      subst (λ v. length v ≤ LONGEST) same short)
+      subst (λ v. length v ≤ LONGEST) same short,
+    )
 
 pub record PolicyRead (xs c : List ℕ) (es : EntryList) (rest : List ℕ) : Type 0 where
   pub told : xs ≡ policy_text c es ++ rest

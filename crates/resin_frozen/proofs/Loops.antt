@@ -1,5 +1,5 @@
 -- One more pair of a loop over pairs.
-use Rattle.std.proofs.Common.{◌≡◌, ℕ, zero, suc, ◌+◌, ◌^◌, ◌<◌, ◌≤◌, Bool, true, false, cond, List, [], ◌∷◌, ◌++◌, length, take, slice_get, get_or, map, Some, None, Err, codes, decimal, refl, sym, ap, subst, ◌∙◌, arith, append_assoc, add-one}
+use Rattle.std.proofs.Common.{◌≡◌, ℕ, zero, suc, ◌+◌, ◌^◌, ◌<◌, ◌≤◌, Bool, true, false, cond, List, [], ◌∷◌, ◌++◌, length, take, slice_get, get_or, Some, None, Err, codes, decimal, refl, sym, ap, subst, ◌∙◌, arith, append_assoc, add-one}
 use Rattle.std.specs.Prelude.{◌&&◌}
 use Rattle.std.specs.List.{list_all, IsDistinct, AllByRecursion}
 use Rattle.std.specs.Map.{keys_of}
@@ -8,8 +8,8 @@ use Rattle.resin_lstr.specs.Texts.{LONGEST}
 use Rattle.resin_value.specs.declared.key.Key.{Key}
 use Rattle.resin_value.specs.declared.key.Key.TheVariants.{Text as TextKey}
 use Rattle.resin_value.specs.declared.value.Value.{Value}
-use Rattle.resin_value.specs.Trees.{Tree, Row}
-use Rattle.resin_value.specs.Arrays.{EntryList, Array, row_of, entries_of, entries_of-row_of}
+use Rattle.resin_value.specs.Trees.{Tree}
+use Rattle.resin_value.specs.Arrays.{EntryList, Array, row_of, entries_of-row_of}
 use Rattle.resin_value.specs.Changes.{lookup, IsApart, AreLawful, IsArray}
 use Rattle.resin_value.specs.Seen.{tree_of}
 use Rattle.resin_value.specs.Values.{FieldList}

@@ -1,7 +1,7 @@
 -- Numbers in decimal are read back, and nothing else is read as one.
 use Rattle.std.proofs.Common.{◌≡◌, ℕ, ℤ, pos, negsuc, neg_ℤ, zero, suc, ◌+◌, ◌-◌, ◌*◌, ◌^◌, ◌<◌, ◌≤◌, min, Bool, true, false, cond, List, [], ◌∷◌, drop, Option, Some, None, refl, sym, ap, subst, ◌∙◌, arith}
 use lib.Signed.{mag}
-use Rattle.std.specs.Prelude.{◌&&◌, not, nat_eq, nat_lt, decimal}
+use Rattle.std.specs.Prelude.{◌&&◌, not, nat_eq, decimal}
 use Rattle.std.specs.Fmt.{signed_decimal}
 use Rattle.std.specs.List.{fold, list_all}
 use Rattle.std.specs.Str.{all_ascii_digits}

@@ -1,6 +1,5 @@
 -- The laws of policy texts.
-use Rattle.std.proofs.Common.{◌≡◌, ℕ, ◌-◌, ◌≤◌, true, List, [], ◌∷◌, ◌++◌, length, take, Some, None, Err, refl, sym, ap, subst, ◌∙◌, arith, length-append}
-use Rattle.std.specs.Prelude.{◌↔◌}
+use Rattle.std.proofs.Common.{◌≡◌, ℕ, ◌-◌, ◌≤◌, true, List, [], ◌∷◌, ◌++◌, length, take, Some, Err, refl, sym, ap, subst, ◌∙◌, arith, length-append}
 use Rattle.std.specs.List.{list_all}
 use Rattle.resin_value.specs.Values.{FieldList}
 use Rattle.resin_frozen.specs.declared.stop.Stop.{Stop}
@@ -9,7 +8,7 @@ use Rattle.resin_frozen.specs.Reads.{Reads, ReadsPolicy, Thaws}
 use Rattle.resin_scan.proofs.Runs.{take_front}
 use Rattle.resin_value.specs.Arrays.{EntryList}
 use Rattle.resin_frozen.specs.Texts.{policy_text}
-use Rattle.resin_frozen.specs.Policies.{IsPolicy, IsPolicyText, kept_pairs, pairs_of, is_field_key, Says}
+use Rattle.resin_frozen.specs.Policies.{IsPolicyText, kept_pairs, pairs_of, is_field_key, Says}
 use Rattle.resin_frozen.specs.Reading.{Policy, and_then, policy, front}
 use Rattle.resin_frozen.specs.Laws.{SaysOnePolicy, ReadsPolicies, FindsTexts}
 use Rattle.resin_frozen.proofs.Numbers.{from_some, none_some}
@@ -27,8 +26,10 @@ says_one_policy c d es fs p q e =
     (ap (λ r. r.0.0) both, ap (λ r. r.0.1) both)
 
 pub reads_policies : ReadsPolicies
-reads_policies xs rest c es = (λ e. let r = policy_read xs c es rest e in (r.told, r.is_policy, r.same),
-  λ h. ap policy h.0 ∙ policy-policy c es rest h.1 ∙ ap (λ fs. Some ((c, fs), rest)) h.2)
+reads_policies xs rest c es = (
+  λ e. let r = policy_read xs c es rest e in (r.told, r.is_policy, r.same),
+  λ h. ap policy h.0 ∙ policy-policy c es rest h.1 ∙ ap (λ fs. Some ((c, fs), rest)) h.2,
+)
 
 -- the front before what is behind it
 before : (w rest : List ℕ) → take (length (w ++ rest) - length rest) (w ++ rest) ≡ w

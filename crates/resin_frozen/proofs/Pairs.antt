@@ -1,22 +1,21 @@
 -- Pairs put into an array one by one, each at a key that is new there.
-use Rattle.std.proofs.Common.{◌≡◌, ℕ, Bool, true, false, cond, List, [], ◌∷◌, ◌++◌, length, map, Option, Some, None, refl, sym, ap, subst, ◌∙◌, append_assoc, arith}
-use Rattle.std.specs.Prelude.{IsTrue, ◌&&◌, nat_le, nat_lt, nat_eq}
+use Rattle.std.proofs.Common.{◌≡◌, ℕ, Bool, true, false, cond, List, [], ◌∷◌, ◌++◌, Some, None, refl, sym, ap, subst, ◌∙◌, append_assoc, arith}
+use Rattle.std.specs.Prelude.{nat_eq}
 use Rattle.std.specs.List.{list_all}
 use Rattle.std.specs.Char.{is_ascii_digit}
 use Rattle.std.proofs.lemmas.Bool.Decides.{nat_tests}
-use Rattle.resin_bytes.specs.Canonical.{canonical_integer, is_unpadded, without_minus}
 use Rattle.resin_scan.specs.Bytes.{begins_name}
 use Rattle.resin_value.specs.declared.key.Key.{Key}
 use Rattle.resin_value.specs.declared.key.Key.TheVariants.{Int, Text}
 use Rattle.resin_value.specs.Keys.{key_eq, is_lawful}
 use Rattle.resin_value.specs.Trees.{Tree, Row, no_entry, entry}
 use Rattle.resin_value.specs.Arrays.{EntryList, Array, row_of, entries_of}
-use Rattle.resin_value.specs.Changes.{lookup, put_at, put, empty, IsApart, AreLawful}
+use Rattle.resin_value.specs.Changes.{lookup, put, IsApart, AreLawful}
 use Rattle.resin_value.proofs.Keeps.{other_key}
 use Rattle.resin_value.proofs.Pairs.{put_last}
 use Rattle.resin_frozen.specs.declared.keys.Keys.{Keys}
 use Rattle.resin_frozen.specs.declared.keys.Keys.TheVariants.{Lawful, Names}
-use Rattle.resin_frozen.specs.Policies.{kept, filled, kept_pairs, is_name, is_field_key}
+use Rattle.resin_frozen.specs.Policies.{kept, filled, kept_pairs, is_field_key}
 use Rattle.resin_frozen.specs.Reading.{is_fit}
 use Rattle.resin_frozen.proofs.Numbers.{and_left, and_right, both, none_some}
 

@@ -1,13 +1,12 @@
 -- Bytes, counts, integers and keys are read back, and nothing else is read as one.
 use Rattle.std.proofs.Common.{◌≡◌, ◌⊎◌, inl, inr, ℕ, ℤ, zero, suc, ◌+◌, ◌^◌, ◌<◌, ◌≤◌, Bool, true, false, cond, List, [], ◌∷◌, ◌++◌, length, take, drop, get_or, Option, Some, None, decimal, codes, refl, sym, ap, subst, ◌∙◌, arith, append_assoc, add-one}
 use lib.Signed.{mag}
-use Rattle.std.specs.Prelude.{◌&&◌, not, nat_eq, nat_lt, nat_le}
+use Rattle.std.specs.Prelude.{not, nat_eq, nat_lt, nat_le}
 use Rattle.std.specs.Fmt.{signed_decimal}
 use Rattle.std.specs.List.{list_all, position_or_len, before_first, after_first, starts_with}
 use Rattle.std.specs.Cmp.Lexicographic.{pointwise}
 use Rattle.std.proofs.lemmas.Bool.Decides.{nat_tests}
 use Rattle.std.proofs.lemmas.List.Sums.{split_at_first, passes_at_first}
-use Rattle.std.proofs.Math.Seq.{split_at}
 use Rattle.resin_scan.specs.Lists.{Every}
 use Rattle.resin_scan.proofs.Runs.{run_exact, take_front}
 use Rattle.resin_value.specs.declared.key.Key.{Key}
@@ -17,7 +16,7 @@ use Rattle.resin_frozen.specs.Texts.{integer_text, bytes_text, key_text}
 use Rattle.resin_frozen.specs.Policies.{IsInteger, IsCount, IsWholeKey}
 use Rattle.resin_frozen.specs.declared.keys.Keys.{Keys}
 use Rattle.resin_frozen.specs.Reading.{and_then, is_text, taken, literal, cut, number, signed, natural, quoted, integer_behind, bytes_behind, key_behind, is_fit, key}
-use Rattle.resin_frozen.proofs.Numbers.{Gives, lacks, and_left, and_right, both, text_same, text_is, from_some, none_some, some_if, chosen, number-decimal, number_read, signed-signed, signed_read, lacks-decimal, lacks-signed}
+use Rattle.resin_frozen.proofs.Numbers.{Gives, lacks, and_left, and_right, text_same, text_is, from_some, none_some, some_if, number-decimal, number_read, signed-signed, signed_read, lacks-decimal, lacks-signed}
 
 -- a value that was read behind another
 pub bound : {A B : Type 0} (o : Option A) (f : A → Option B) (r : B) → and_then o f ≡ Some r → (a : A) × (o ≡ Some a) × (f a ≡ Some r)
@@ -146,7 +145,7 @@ unfolding quoted
 quoted-quoted w rest h =
     ap quoted (quoted_parts w rest)
     ∙ on (λ n. and_then (literal (codes "\"") n.1) (λ o. and_then (taken n.0 o.1) (λ w. and_then (literal (codes "\"") w.1) (λ c. Some (w.0, c.1)))))
-        (natural-decimal 58 (length w) (codes "\"" ++ (w ++ (codes "\"" ++ rest))) (omega arith) h)
+    (natural-decimal 58 (length w) (codes "\"" ++ (w ++ (codes "\"" ++ rest))) (omega arith) h)
     ∙ on (λ o. and_then (taken (length w) o.1) (λ w. and_then (literal (codes "\"") w.1) (λ c. Some (w.0, c.1)))) (literal-front (codes "\"") (w ++ (codes "\"" ++ rest)))
     ∙ on (λ w. and_then (literal (codes "\"") w.1) (λ c. Some (w.0, c.1))) (taken-front w (codes "\"" ++ rest))
     ∙ on (λ c. Some (w, c.1)) (literal-front (codes "\"") rest)
@@ -165,10 +164,11 @@ quoted_read xs w rest e =
     let close = literal_read (codes "\"") v.0.1 c.0.1 c.0.0 c.1 in
     let same : v.0.0 ≡ w = ap (λ q. q.0) p in
     let last : c.0.1 ≡ rest = ap (λ q. q.1) p in
-    let len : n.0.0 ≡ length w = sym bytes.1 ∙ ap length same in
-    (count.0 ∙ ap (λ v. decimal n.0.0 ++ 58 ∷ v) (opening ∙ ap (λ v. 34 ∷ v) (bytes.0 ∙ ap (λ t. v.0.0 ++ t) (close ∙ ap (λ t. 34 ∷ t) last) ∙ ap (λ u. u ++ 34 ∷ rest) same))
-        ∙ ap (λ m. decimal m ++ 58 ∷ 34 ∷ (w ++ 34 ∷ rest)) len ∙ sym (quoted_parts w rest),
-      subst (λ m. m < 2 ^ 64) len count.1)
+    let len : n.0.0 ≡ length w = sym bytes.1 ∙ ap length same in (
+      count.0 ∙ ap (λ v. decimal n.0.0 ++ 58 ∷ v) (opening ∙ ap (λ v. 34 ∷ v) (bytes.0 ∙ ap (λ t. v.0.0 ++ t) (close ∙ ap (λ t. 34 ∷ t) last) ∙ ap (λ u. u ++ 34 ∷ rest) same))
+          ∙ ap (λ m. decimal m ++ 58 ∷ 34 ∷ (w ++ 34 ∷ rest)) len ∙ sym (quoted_parts w rest),
+      subst (λ m. m < 2 ^ 64) len count.1,
+    )
 
 -- ---- integers and texts, behind their first two bytes
 pub integer-integer : (n : ℤ) (rest : List ℕ) → IsInteger n → integer_behind ((signed_decimal n ++ codes ";") ++ rest) ≡ Some (n, rest)
@@ -184,9 +184,10 @@ integer_read xs n rest e =
     let l = bound (cut 59 xs) (λ l. and_then (signed l.0) (λ n. Some (n, l.1))) (n, rest) e in
     let m = bound (signed l.0.0) (λ n. Some (n, l.0.1)) (n, rest) l.2 in
     let p = from_some (m.0, l.0.1) (n, rest) m.2 in
-    let r = signed_read l.0.0 m.0 m.1 in
-    (cut_read 59 xs l.0.0 l.0.1 l.1 ∙ ap (λ w. w ++ 59 ∷ l.0.1) r.0 ∙ ap (λ q. signed_decimal q.0 ++ 59 ∷ q.1) p ∙ sym (append_assoc (signed_decimal n) (codes ";") rest),
-      subst (λ q. mag q < 2 ^ 63) (ap (λ q. q.0) p) r.1)
+    let r = signed_read l.0.0 m.0 m.1 in (
+      cut_read 59 xs l.0.0 l.0.1 l.1 ∙ ap (λ w. w ++ 59 ∷ l.0.1) r.0 ∙ ap (λ q. signed_decimal q.0 ++ 59 ∷ q.1) p ∙ sym (append_assoc (signed_decimal n) (codes ";") rest),
+      subst (λ q. mag q < 2 ^ 63) (ap (λ q. q.0) p) r.1,
+    )
 
 pub bytes-bytes : (w rest : List ℕ) → IsCount (length w) → bytes_behind ((texts.quoted w ++ codes ";") ++ rest) ≡ Some (w, rest)
 unfolding bytes_behind
@@ -202,9 +203,10 @@ bytes_read xs w rest e =
     let c = bound (literal (codes ";") v.0.1) (λ e. Some (v.0.0, e.1)) (w, rest) v.2 in
     let p = from_some (v.0.0, c.0.1) (w, rest) c.2 in
     let q = quoted_read xs v.0.0 v.0.1 v.1 in
-    let end = literal_read (codes ";") v.0.1 c.0.1 c.0.0 c.1 in
-    (q.0 ∙ ap (λ t. texts.quoted v.0.0 ++ t) end ∙ ap (λ q. texts.quoted q.0 ++ 59 ∷ q.1) p ∙ sym (append_assoc (texts.quoted w) (codes ";") rest),
-      subst (λ u. length u < 2 ^ 64) (ap (λ q. q.0) p) q.1)
+    let end = literal_read (codes ";") v.0.1 c.0.1 c.0.0 c.1 in (
+      q.0 ∙ ap (λ t. texts.quoted v.0.0 ++ t) end ∙ ap (λ q. texts.quoted q.0 ++ 59 ∷ q.1) p ∙ sym (append_assoc (texts.quoted w) (codes ";") rest),
+      subst (λ u. length u < 2 ^ 64) (ap (λ q. q.0) p) q.1,
+    )
 
 -- ---- keys
 int_behind : (n : ℤ) (rest : List ℕ) → IsInteger n → key_behind (codes "i:") ((signed_decimal n ++ codes ";") ++ rest) ≡ Some (Int n, rest)
@@ -259,7 +261,8 @@ key_read keys xs k rest e =
     let t = bound (taken 2 xs) (λ t. and_then (key_behind t.0 t.1) (λ k. cond (is_fit keys k.0) (Some k) None)) (k, rest) e in
     let m = bound (key_behind t.0.0 t.0.1) (λ k. cond (is_fit keys k.0) (Some k) None) (k, rest) t.2 in
     let f = some_if (is_fit keys m.0.0) m.0 (k, rest) m.2 in
-    let r = key_behind_read t.0.0 t.0.1 m.0.0 m.0.1 m.1 in
-    ((taken_read 2 xs t.0.0 t.0.1 t.1).0 ∙ r.0 ∙ ap (λ q. key_text q.0 ++ q.1) f.1,
+    let r = key_behind_read t.0.0 t.0.1 m.0.0 m.0.1 m.1 in (
+      (taken_read 2 xs t.0.0 t.0.1 t.1).0 ∙ r.0 ∙ ap (λ q. key_text q.0 ++ q.1) f.1,
       subst IsWholeKey (ap (λ q. q.0) f.1) r.1,
-      subst (λ j. is_fit keys j ≡ true) (ap (λ q. q.0) f.1) f.0)
+      subst (λ j. is_fit keys j ≡ true) (ap (λ q. q.0) f.1) f.0,
+    )

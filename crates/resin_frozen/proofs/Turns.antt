@@ -1,5 +1,5 @@
 -- One turn of a loop that reads pairs, and what a value is by its first two bytes.
-use Rattle.std.proofs.Common.{◌≡◌, ℕ, zero, suc, ◌+◌, ◌-◌, ◌<◌, ◌≤◌, Bool, true, false, cond, List, Option, Some, None, Err, codes, refl, sym, ap, subst, ◌∙◌, arith}
+use Rattle.std.proofs.Common.{◌≡◌, ℕ, zero, suc, ◌+◌, true, false, cond, List, Option, Some, None, Err, codes, sym, ap, ◌∙◌, arith}
 use Rattle.resin_value.specs.Trees.{Tree}
 use Rattle.resin_value.specs.Arrays.{Array}
 use Rattle.resin_frozen.specs.declared.keys.Keys.{Keys}

@@ -1,5 +1,5 @@
 -- A text of values is read back: what a text keeps of them.
-use Rattle.std.proofs.Common.{◌≡◌, ℕ, ℤ, zero, suc, ◌^◌, ◌<◌, ◌≤◌, Bool, true, false, cond, List, [], ◌∷◌, ◌++◌, length, map, Option, Some, None, decimal, codes, refl, sym, ap, subst, ◌∙◌, arith, append_assoc}
+use Rattle.std.proofs.Common.{◌≡◌, ℕ, ℤ, zero, suc, ◌≤◌, Bool, true, false, cond, List, [], ◌∷◌, ◌++◌, length, Option, Some, None, decimal, codes, refl, sym, ap, subst, ◌∙◌, arith, append_assoc}
 use Rattle.std.specs.Prelude.{◌&&◌, nat_le, is_none}
 use Rattle.std.specs.Fmt.{signed_decimal}
 use Rattle.std.specs.List.{list_all}
@@ -15,7 +15,7 @@ use Rattle.resin_frozen.specs.declared.keys.Keys.TheVariants.{Lawful, Names}
 use Rattle.resin_frozen.specs.Texts as texts
 use Rattle.resin_frozen.specs.Texts.{value_text, pairs_text, key_text, boolean_text, policy_head, policy_text}
 use Rattle.resin_frozen.specs.Policies.{ROOM, IsWholeKey, IsWhole, AreWhole, IsCount, IsPolicy, is_name, is_field_key, kept, filled, tree_of_array, kept_pairs}
-use Rattle.resin_frozen.specs.Reading.{Read, and_then, is_text, taken, literal, natural, quoted, bytes_behind, integer_behind, boolean_behind, plain_text, text_behind, key, is_fit, pair, pairs, braced, array_behind, scalar_behind, value_with, value, class, policy}
+use Rattle.resin_frozen.specs.Reading.{Read, and_then, is_text, literal, boolean_behind, plain_text, text_behind, is_fit, pair, pairs, braced, array_behind, scalar_behind, value_with, value, class, policy}
 use Rattle.resin_frozen.proofs.Numbers.{both}
 use Rattle.resin_frozen.proofs.Parts.{on, taken-front, literal-front, natural-decimal, quoted-quoted, integer-integer, bytes-bytes, key-key}
 use Rattle.resin_frozen.proofs.Pairs.{Fresh, AreFit, fresh_from, free_empty, filled_entries, fit_lawful, fit_names}
@@ -54,7 +54,7 @@ unfolding braced
 braced-braced V room H keys r rest fit whole fresh count =
     ap (braced V keys) (braced_parts (length (entries_of r)) (pairs_text r) rest)
     ∙ on (λ n. and_then (literal (codes "{") n.1) (λ o. and_then (pairs V keys n.0 empty o.1) (λ a. and_then (literal (codes "}") a.1) (λ c. Some (a.0, c.1)))))
-        (natural-decimal 58 (length (entries_of r)) (codes "{" ++ (pairs_text r ++ (codes "}" ++ rest))) (omega arith) count)
+    (natural-decimal 58 (length (entries_of r)) (codes "{" ++ (pairs_text r ++ (codes "}" ++ rest))) (omega arith) count)
     ∙ on (λ o. and_then (pairs V keys (length (entries_of r)) empty o.1) (λ a. and_then (literal (codes "}") a.1) (λ c. Some (a.0, c.1)))) (literal-front (codes "{") (pairs_text r ++ (codes "}" ++ rest)))
     ∙ on (λ a. and_then (literal (codes "}") a.1) (λ c. Some (a.0, c.1))) (pairs-pairs V room H keys r empty (codes "}" ++ rest) fit whole fresh)
     ∙ on (λ c. Some (filled empty r, c.1)) (literal-front (codes "}") rest)
@@ -136,9 +136,9 @@ policy-policy c es rest p =
     (braced-braced (value ROOM) ROOM (value-value ROOM) Names (row_of es) rest fit p.whole fresh count) in
     ap policy (policy_parts c es rest)
     ∙ on (λ o. and_then (class o.1) (λ c. and_then (literal (codes ":") c.1) (λ d. and_then (braced (value ROOM) Names d.1) (λ a. Some ((c.0, a.0.entries), a.1)))))
-        (literal-front (codes "O:") (texts.quoted c ++ (codes ":" ++ (texts.braced (length es) (pairs_text (row_of es)) ++ rest))))
+    (literal-front (codes "O:") (texts.quoted c ++ (codes ":" ++ (texts.braced (length es) (pairs_text (row_of es)) ++ rest))))
     ∙ on (λ c. and_then (literal (codes ":") c.1) (λ d. and_then (braced (value ROOM) Names d.1) (λ a. Some ((c.0, a.0.entries), a.1))))
-        (class-class c (codes ":" ++ (texts.braced (length es) (pairs_text (row_of es)) ++ rest)) p.class_name p.class_short)
+    (class-class c (codes ":" ++ (texts.braced (length es) (pairs_text (row_of es)) ++ rest)) p.class_name p.class_short)
     ∙ on (λ d. and_then (braced (value ROOM) Names d.1) (λ a. Some ((c, a.0.entries), a.1))) (literal-front (codes ":") (texts.braced (length es) (pairs_text (row_of es)) ++ rest))
     ∙ on (λ a. Some ((c, a.0.entries), a.1)) inside
     ∙ ap (λ fs. Some ((c, fs), rest)) (filled_entries empty (row_of es) fresh ∙ ap kept_pairs same)

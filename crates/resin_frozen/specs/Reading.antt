@@ -1,5 +1,5 @@
 -- Reading a policy text from the front of bytes.
-use Rattle.std.specs.Prelude.{ℕ, zero, suc, ◌+◌, ◌-◌, ◌^◌, min, Bool, true, false, ◌&&◌, nat_lt, nat_le, nat_eq, ℤ, pos, neg_ℤ, List, [], ◌∷◌, length, take, drop, codes, decimal, Option, Some, None, is_none, if◌then◌else◌}
+use Rattle.std.specs.Prelude.{ℕ, zero, suc, ◌-◌, ◌^◌, min, Bool, true, false, ◌&&◌, nat_lt, nat_le, nat_eq, ℤ, pos, neg_ℤ, List, length, take, drop, codes, decimal, Option, Some, None, is_none, if◌then◌else◌}
 use Rattle.std.specs.Fmt.{signed_decimal}
 use Rattle.std.specs.List.{position_or_len, before_first, after_first, starts_with}
 use Rattle.std.specs.Cmp.Lexicographic.{pointwise}

@@ -12,9 +12,9 @@ ghost use Rattle.resin_frozen.specs.Reads.{Reads};
 
 use crate::rest::Rest;
 use crate::stop::Stop;
+use indexmap::IndexSet;
 use resin_lstr::MAX_LEN;
 use resin_scan::bytes::{begins_name, is_name_byte};
-use indexmap::IndexSet;
 use resin_value::{Fields, Key, KeyText};
 use std::alloc::{AllocError, Global};
 

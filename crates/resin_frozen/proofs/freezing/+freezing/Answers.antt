@@ -1,4 +1,4 @@
-use Rattle.std.proofs.Common.{◌≡◌, ◌+◌, ◌-◌, ◌<◌, ◌≤◌, rules, arith, sym, ap, ◌∙◌, length}
+use Rattle.std.proofs.Common.{◌≡◌, ◌+◌, ◌-◌, arith, sym, ap, ◌∙◌, length}
 use Rattle.std.proofs.lemmas.Result.{err_from_is_err_and}
 use Rattle.resin_value.specs.Arrays.{row_of, entries_of, entries_of-row_of}
 use Rattle.resin_value.specs.Seen.{tree_of}
@@ -20,8 +20,9 @@ pub push_array-returns : goal.push_array-returns
 push_array-returns t c =
     let a = c.args.array.now in
     let same : (c.args.room - 1) + 1 ≡ c.args.room = omega arith in
-    let len : c.len.result ≡ length (entries_of (row_of a.entries)) = c.len.ensures.value ∙ ap length (sym (entries_of-row_of a.entries)) in
-    (array_text c.args.text.now c.push_slice.new.self c.push_number.new.text c.push_slice-2.new.self c.push_pairs.new.text c.push.new.self c.len.result (length (entries_of (row_of a.entries))) (pairs_text (row_of a.entries))
-        c.in_ok-push_slice.ensures.ok c.in_ok-push_number.ensures c.in_ok-push_slice-2.ensures.ok c.in_ok-push_pairs.ensures.0 c.in_ok-push.ensures.ok len,
+    let len : c.len.result ≡ length (entries_of (row_of a.entries)) = c.len.ensures.value ∙ ap length (sym (entries_of-row_of a.entries)) in (
+      array_text c.args.text.now c.push_slice.new.self c.push_number.new.text c.push_slice-2.new.self c.push_pairs.new.text c.push.new.self c.len.result (length (entries_of (row_of a.entries))) (pairs_text (row_of a.entries))
+          c.in_ok-push_slice.ensures.ok c.in_ok-push_number.ensures c.in_ok-push_slice-2.ensures.ok c.in_ok-push_pairs.ensures.0 c.in_ok-push.ensures.ok len,
       array_storable c.args.room (c.args.room - 1) a same ∙ c.in_ok-push_pairs.ensures.1,
-      array_whole c.args.room (c.args.room - 1) a same (omega (arith, c.len.ensures.value)) c.len.ensures.kept c.in_ok-push_pairs.ensures.2)
+      array_whole c.args.room (c.args.room - 1) a same (omega (arith, c.len.ensures.value)) c.len.ensures.kept c.in_ok-push_pairs.ensures.2,
+    )

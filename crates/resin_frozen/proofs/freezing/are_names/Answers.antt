@@ -1,4 +1,4 @@
-use Rattle.std.proofs.Common.{rules, sym, ◌∙◌}
+use Rattle.std.proofs.Common.{rules, sym}
 use Rattle.resin_frozen.specs.Policies.{is_field_key}
 use Rattle.resin_frozen.proofs.Loops.{all_more, all_fails}
 use Rattle.resin_frozen.proofs.freezing.are_names.Goals as goal

@@ -1,4 +1,4 @@
-use Rattle.std.proofs.Common.{◌≡◌, ◌++◌, ◌∷◌, [], ◌<◌, ◌^◌, length, Some, None, cond, rules, arith, sym, ap, ◌∙◌}
+use Rattle.std.proofs.Common.{◌++◌, length, Some, None, cond, arith, sym, ap, ◌∙◌}
 use Rattle.resin_frozen.specs.Texts.{policy_head, policy_text}
 use Rattle.resin_frozen.specs.Policies.{pairs_of}
 use Rattle.resin_frozen.proofs.Loops.{fields_policy, length_pairs, policy_from}

@@ -1,7 +1,6 @@
-use Rattle.std.proofs.Common.{◌≡◌, ◌<◌, rules, arith, Some, List, ℕ, length, slice_get}
+use Rattle.std.proofs.Common.{◌≡◌, Some, slice_get}
 use Rattle.std.proofs.lemmas.Result.{err_from_is_err_and}
 use Rattle.resin_value.specs.declared.key.Key.TheVariants.{Text}
-use Rattle.resin_value.specs.declared.value.Value.{Value}
 use Rattle.resin_value.specs.Seen.{tree_of}
 use Rattle.resin_frozen.specs.Policies.{ROOM, pairs_of}
 use Rattle.resin_frozen.proofs.Loops.{slice_from, pairs_at, field_more, value_fails}

@@ -1,6 +1,5 @@
-use Rattle.std.proofs.Common.{◌≡◌, Some, subst, ◌∙◌}
+use Rattle.std.proofs.Common.{◌≡◌, ◌∙◌}
 use Rattle.std.proofs.lemmas.Result.{err_from_is_err_and}
-use Rattle.resin_frozen.specs.Reading.{policy}
 use Rattle.resin_frozen.proofs.One_text.{says, names_of, thaw_fails}
 use Rattle.resin_frozen.proofs.frozen.thawed.Goals as goal
 

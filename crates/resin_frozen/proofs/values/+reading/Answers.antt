@@ -1,6 +1,6 @@
-use Rattle.std.proofs.Common.{◌≡◌, ◌+◌, ◌-◌, ◌<◌, ◌≤◌, suc, true, false, codes, rules, arith, sym, subst, ◌∙◌}
+use Rattle.std.proofs.Common.{◌≡◌, ◌+◌, ◌-◌, true, false, codes, rules, arith, sym, subst, ◌∙◌}
 use Rattle.std.proofs.lemmas.Result.{err_from_is_err_and}
-use Rattle.resin_frozen.specs.Reading.{is_text, pairs, value}
+use Rattle.resin_frozen.specs.Reading.{is_text, value}
 use Rattle.resin_frozen.specs.Reads.{ReadsValue}
 use Rattle.resin_frozen.proofs.Turns.{turn, fails, ends, scalar, array_got, array_fails}
 use Rattle.resin_frozen.proofs.values.+reading.Goals as goal
@@ -8,7 +8,7 @@ use Rattle.resin_frozen.proofs.values.+reading.Goals as goal
 pub read_pairs-loop-i-preserved : goal.read_pairs-loop-i-preserved
 read_pairs-loop-i-preserved t c = (
   sym (turn (value c.args.room) c.args.keys (c.args.count - c.loop-i._i) (c.args.count - (c.loop-i._i + 1)) c.loop-i.array c.in_ok-array.array c.loop-i.rest c.read_pair.new.rest (omega (arith, c.loop-i-test.true)) c.in_ok-array.ensures.reads)
-  ∙ c.loop-i.invariant.0,
+      ∙ c.loop-i.invariant.0,
   c.in_ok-array.ensures.low,
 )
 

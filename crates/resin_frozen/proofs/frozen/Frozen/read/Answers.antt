@@ -1,6 +1,5 @@
-use Rattle.std.proofs.Common.{◌≡◌, ◌≤◌, ◌-◌, length, take, Some, List, ℕ, rules, arith, sym, ap, subst, ◌∙◌}
+use Rattle.std.proofs.Common.{◌≡◌, ◌-◌, length, take, Some, List, ℕ, arith, sym, ap, ◌∙◌}
 use Rattle.std.proofs.lemmas.Result.{err_from_is_err_and}
-use Rattle.resin_frozen.specs.Policies.{IsPolicyText}
 use Rattle.resin_frozen.specs.Reading.{Policy, policy, front}
 use Rattle.resin_frozen.proofs.One_text.{front_fails, front_found, front_read, behind_short}
 use Rattle.resin_frozen.proofs.frozen.Frozen.read.Goals as goal
