@@ -131,7 +131,7 @@ pub fn push_value(out: &mut String, value: &Value) -> Result<(), AllocError> {
         Value::Bool(b) => write!(out, " {b}"),
         Value::Int(n, set) => {
             write!(out, " {n}")?;
-            push_labels(out, set.is_empty())
+            push_labels(out, set.as_slice().is_empty())
         }
         Value::Text(text) => {
             out.push_str(" '")?;
@@ -156,5 +156,5 @@ fn push_labels(out: &mut String, none: bool) -> Result<(), AllocError> {
 
 // Whether no byte of a text carries a label.
 fn is_plain(text: &LText) -> bool {
-    text.runs().iter().all(|run| run.set.is_empty())
+    text.runs().iter().all(|run| run.set.as_slice().is_empty())
 }
