@@ -4,7 +4,9 @@ use crate::fields::{bytes_in, push_bytes};
 use crate::stop::Stop;
 use crate::values::{push_value, value_in};
 use resin_bytes::Bytes;
-use resin_frozen::{FreezeFault, Frozen, Rest, Stop as ReadStop, are_fields, freeze, is_class, thaw};
+use resin_frozen::{
+    FreezeFault, Frozen, Rest, Stop as ReadStop, are_fields, freeze, is_class, thaw,
+};
 use resin_value::Fields;
 use std::alloc::Global;
 
