@@ -1,4 +1,0 @@
-pub mod Marks
-pub mod Shadows
-pub mod Answers
-pub mod Laws
