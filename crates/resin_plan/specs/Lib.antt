@@ -1,0 +1,8 @@
+pub mod TableCalls
+pub mod Plans
+pub mod Columns
+pub mod Cells
+pub mod Refusals
+pub mod Conditions
+pub mod Rows
+pub mod Statements

@@ -1,0 +1,85 @@
+//! Which rows are answered, in which order, and how many.
+
+ghost use Rattle.std.specs.Prelude.{◌≡◌, map, filter, IfOk, OnOk};
+ghost use Rattle.std.specs.Ordering.{ordering_reverse};
+ghost use Rattle.resin_base.specs.declared.cell.Row.{Row};
+ghost use Rattle.resin_plan.specs.Cells.{cell_order};
+ghost use Rattle.resin_plan.specs.Conditions.{where_holds};
+ghost use Rattle.resin_plan.specs.Rows.{ordered, limited};
+
+use crate::cells::{cell_order, value_at};
+use crate::columns::{Place, found};
+use crate::conditions::where_holds;
+use resin_base::{Cell, Column, Row, StoredCell};
+use resin_sql::{Condition, Order};
+use std::alloc::{AllocError, Global};
+use std::cmp::Ordering;
+
+/// The cells of the row at a place, none behind the end.
+pub(crate) fn cells_at(rows: &[Row], at: usize) -> &[Cell] {
+    match rows.get(at) {
+        Some(row) => row.cells.as_slice(),
+        None => &[],
+    }
+}
+
+/// The places of the rows that meet a condition.
+pub(crate) fn chosen_places(
+    alloc: Global,
+    columns: &[Column],
+    condition: &Option<Condition>,
+    values: &[StoredCell],
+    rows: &[Row],
+) -> Result<Vec<usize>, AllocError> {
+    let mut places = Vec::new(alloc);
+    for i in 0..rows.len() {
+        if where_holds(columns, condition, values, rows[i].cells.as_slice()) {
+            places.push(i)?;
+        }
+    }
+    Ok(places)
+}
+
+fn row_order(place: Place, descending: bool, a: &[Cell], b: &[Cell]) -> Ordering {
+    let first = value_at(a, place.at);
+    let second = value_at(b, place.at);
+    if descending {
+        cell_order(place.kind, second, first)
+    } else {
+        cell_order(place.kind, first, second)
+    }
+}
+
+/// Puts places of rows in the order of a column; ties stay as they are.
+fn sort_places(
+    places: &mut Vec<usize>,
+    rows: &[Row],
+    place: Place,
+    descending: bool,
+) -> Result<(), AllocError> {
+    places.sort_by(|a, b| row_order(place, descending, cells_at(rows, *a), cells_at(rows, *b)))
+}
+
+/// Puts places of rows in the order of an ORDER BY that may be left out.
+pub(crate) fn order_places(
+    places: &mut Vec<usize>,
+    columns: &[Column],
+    rows: &[Row],
+    order: &Option<Order>,
+) -> Result<(), AllocError> {
+    match order {
+        None => Ok(()),
+        Some(order) => match found(columns, order.column.as_slice()) {
+            None => Ok(()),
+            Some(place) => sort_places(places, rows, place, order.descending),
+        },
+    }
+}
+
+/// Keeps as many places as a LIMIT allows that may be left out.
+pub(crate) fn limit_places(places: &mut Vec<usize>, limit: Option<u64>) {
+    match limit {
+        Some(limit) if limit < places.len() as u64 => places.truncate(limit as usize),
+        _ => {}
+    }
+}
