@@ -1,5 +1,5 @@
 -- Cells: kinds, tests and order.
-use Rattle.std.specs.Prelude.{ℕ, ◌+◌, ◌*◌, Bool, true, false, not, List, [], ◌∷◌, slice_index_or, Option, Some, None}
+use Rattle.std.specs.Prelude.{ℕ, ◌+◌, ◌*◌, Bool, true, false, not, List, [], ◌∷◌, slice_get, Option, Some, None}
 use Rattle.std.specs.Ordering.{Ordering, int_cmp, bool_cmp, is_eq, is_ne, is_lt, is_le, is_gt, is_ge}
 use Rattle.resin_base.specs.Contents.{byte_order}
 use Rattle.resin_base.specs.declared.cell.Cell.{Cell}
@@ -57,9 +57,13 @@ cell_order kind.Integer (cell.Int a) (cell.Int b) = int_cmp a b
 cell_order kind.Text (cell.Text a) (cell.Text b) = byte_order a b
 cell_order k a b = bool_cmp (is_of_kind k a) (is_of_kind k b)
 
--- the cell at a place; a row has none behind its end
+abbrev pub or_null : Option Cell → Cell
+or_null None = cell.Null
+or_null (Some c) = c
+
+-- the cell at a place; behind a row's end it is NULL
 abbrev pub cell_at : List Cell → ℕ → Cell
-cell_at cells i = slice_index_or cells i cell.Null
+cell_at cells i = or_null (slice_get cells i)
 
 -- the value and the shadow of the column at a place
 abbrev pub value_at : List Cell → ℕ → Cell

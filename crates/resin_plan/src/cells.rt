@@ -1,7 +1,8 @@
 //! Cells: kinds, tests, order and copies.
 
 ghost use Rattle.std.specs.Prelude.{◌≡◌, IfOk};
-ghost use Rattle.resin_plan.specs.Cells.{is_null, is_of_kind, fits, meets, meets_null, allows, cell_order, cell_at, value_at, shadow_at};
+ghost use Rattle.std.specs.Option.{option_copied};
+ghost use Rattle.resin_plan.specs.Cells.{is_null, is_of_kind, fits, meets, meets_null, allows, cell_order, or_null, value_at, shadow_at};
 
 use resin_base::{Bytes, Cell, Kind};
 use resin_sql::Comparison;
@@ -29,7 +30,7 @@ fn is_null(cell: &Cell) -> bool
 }
 
 /// Whether a cell has a value of a kind.
-pub(crate) fn is_of_kind(kind: Kind, cell: &Cell) -> bool
+fn is_of_kind(kind: Kind, cell: &Cell) -> bool
     ensures { result ≡ is_of_kind kind cell.now }
 {
     match (kind, cell) {
@@ -62,7 +63,7 @@ fn allows(comparison: Comparison, order: Ordering) -> bool
 }
 
 /// Whether a cell meets a test against a value.
-pub(crate) fn meets(comparison: Comparison, cell: &Cell, value: &Cell) -> bool
+fn meets(comparison: Comparison, cell: &Cell, value: &Cell) -> bool
     ensures { result ≡ meets comparison cell.now value.now }
 {
     match (cell, value) {
@@ -73,7 +74,7 @@ pub(crate) fn meets(comparison: Comparison, cell: &Cell, value: &Cell) -> bool
 }
 
 /// Whether a cell of a column of a kind is NULL, or where `negated` is not.
-pub(crate) fn meets_null(negated: bool, kind: Kind, cell: &Cell) -> bool
+fn meets_null(negated: bool, kind: Kind, cell: &Cell) -> bool
     ensures { result ≡ meets_null negated kind cell.now }
 {
     if negated {
@@ -84,7 +85,7 @@ pub(crate) fn meets_null(negated: bool, kind: Kind, cell: &Cell) -> bool
 }
 
 /// The order of two cells of a column of a kind.
-pub(crate) fn cell_order(kind: Kind, a: &Cell, b: &Cell) -> Ordering
+fn cell_order(kind: Kind, a: &Cell, b: &Cell) -> Ordering
     ensures { result ≡ cell_order kind a.now b.now }
 {
     match (kind, a, b) {
@@ -94,36 +95,84 @@ pub(crate) fn cell_order(kind: Kind, a: &Cell, b: &Cell) -> Ordering
     }
 }
 
-const NULL: &Cell = &Cell::Null;
-
-/// The cell at a place, NULL behind the end.
-pub(crate) fn cell_at<'a>(cells: &'a [Cell], at: usize) -> &'a Cell
-    ensures { result.now ≡ cell_at cells.now at }
+/// The value of the column at a place, if the row has one.
+pub(crate) fn value_at<'a>(cells: &'a [Cell], at: usize) -> Option<&'a Cell>
+    ensures { or_null (option_copied result) ≡ value_at cells.now at }
 {
-    match cells.get(at) {
-        Some(cell) => cell,
-        None => NULL,
+    if at < cells.len() {
+        cells.get(2 * at)
+    } else {
+        None
     }
 }
 
-/// The value of the column at a place.
-pub(crate) fn value_at<'a>(cells: &'a [Cell], at: usize) -> &'a Cell
-    ensures { result.now ≡ value_at cells.now at }
+/// The shadow of the column at a place, if the row has one.
+pub(crate) fn shadow_at<'a>(cells: &'a [Cell], at: usize) -> Option<&'a Cell>
+    ensures { or_null (option_copied result) ≡ shadow_at cells.now at }
 {
     if at < cells.len() {
-        cell_at(cells, 2 * at)
+        cells.get(2 * at + 1)
     } else {
-        NULL
+        None
     }
 }
 
-/// The shadow of the column at a place.
-pub(crate) fn shadow_at<'a>(cells: &'a [Cell], at: usize) -> &'a Cell
-    ensures { result.now ≡ shadow_at cells.now at }
+/// A copy of a cell, NULL where there is none.
+pub(crate) fn copied_or_null(alloc: Global, cell: Option<&Cell>) -> Result<Cell, AllocError>
+    ensures { IfOk result (λ copy. copy ≡ or_null (option_copied cell.entry)) }
 {
-    if at < cells.len() {
-        cell_at(cells, 2 * at + 1)
-    } else {
-        NULL
+    match cell {
+        Some(cell) => copied(alloc, cell),
+        None => Ok(Cell::Null),
+    }
+}
+
+/// Whether a cell has a value of a kind or is NULL, or there is none.
+pub(crate) fn fits_or_null(kind: Kind, cell: Option<&Cell>) -> bool
+    ensures { result ≡ fits kind (or_null (option_copied cell.entry)) }
+{
+    match cell {
+        Some(cell) => fits(kind, cell),
+        None => true,
+    }
+}
+
+/// Whether there is a cell that meets a test against a value.
+pub(crate) fn meets_or_null(comparison: Comparison, cell: Option<&Cell>, value: &Cell) -> bool
+    ensures { result ≡ meets comparison (or_null (option_copied cell.entry)) value.now }
+{
+    match cell {
+        Some(cell) => meets(comparison, cell, value),
+        None => false,
+    }
+}
+
+/// Whether a cell of a column of a kind is NULL or isn't there, or where `negated` has a value.
+pub(crate) fn is_null_or_none(negated: bool, kind: Kind, cell: Option<&Cell>) -> bool
+    ensures { result ≡ meets_null negated kind (or_null (option_copied cell.entry)) }
+{
+    match cell {
+        Some(cell) => meets_null(negated, kind, cell),
+        None => !negated,
+    }
+}
+
+/// Whether there is a cell with a value of a kind.
+fn has_kind(kind: Kind, cell: Option<&Cell>) -> bool
+    ensures { result ≡ is_of_kind kind (or_null (option_copied cell.entry)) }
+{
+    match cell {
+        Some(cell) => is_of_kind(kind, cell),
+        None => false,
+    }
+}
+
+/// The order of two cells of a column of a kind, of which one that isn't there is NULL.
+pub(crate) fn order_or_null(kind: Kind, a: Option<&Cell>, b: Option<&Cell>) -> Ordering
+    ensures { result ≡ cell_order kind (or_null (option_copied a.entry)) (or_null (option_copied b.entry)) }
+{
+    match (a, b) {
+        (Some(a), Some(b)) => cell_order(kind, a, b),
+        _ => has_kind(kind, a).cmp(&has_kind(kind, b)),
     }
 }

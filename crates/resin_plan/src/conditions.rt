@@ -1,9 +1,12 @@
 //! Conditions: which rows meet them, and when their tests are refused.
 
 ghost use Rattle.std.specs.Prelude.{◌≡◌, ◌&&◌, ◌||◌, drop, map};
-ghost use Rattle.resin_plan.specs.Conditions.{front_value, test_holds, holds, all_hold, any_holds, test_cause, condition_cause, parts_cause, where_holds, where_cause};
+ghost use Rattle.resin_plan.specs.declared.columns.Place.{Place};
+ghost use Rattle.resin_plan.specs.Cells.{meets, meets_null, value_at};
+ghost use Rattle.resin_plan.specs.Columns.{found};
+ghost use Rattle.resin_plan.specs.Conditions.{front_value, place_meets, test_holds, holds, all_hold, any_holds, test_cause, condition_cause, parts_cause, where_holds, where_cause};
 
-use crate::cells::{meets, meets_null, value_at};
+use crate::cells::{is_null_or_none, meets_or_null, value_at};
 use crate::columns::found;
 use crate::refusals::{earlier, name_cause, value_cause};
 use resin_base::{Cell, Column, StoredCell};
@@ -20,12 +23,15 @@ fn compares(
     ensures { result ≡ place_meets (λ (p : Place). meets comparison (value_at cells.now p.at) (front_value values.now)) (found columns.now name.now) }
 {
     match (found(columns, name), values.first()) {
-        (Some(place), Some(value)) => meets(comparison, value_at(cells, place.at), &value.value),
+        (Some(place), Some(value)) => {
+            meets_or_null(comparison, value_at(cells, place.at), &value.value)
+        },
         _ => false,
     }
 }
 
-fn is_empty(
+/// Whether the value of a column in a row of these cells is NULL, or where `negated` is not.
+fn tests_null(
     columns: &[Column],
     cells: &[Cell],
     name: &[u8],
@@ -34,7 +40,7 @@ fn is_empty(
     ensures { result ≡ place_meets (λ (p : Place). meets_null negated p.kind (value_at cells.now p.at)) (found columns.now name.now) }
 {
     match found(columns, name) {
-        Some(place) => meets_null(negated, place.kind, value_at(cells, place.at)),
+        Some(place) => is_null_or_none(negated, place.kind, value_at(cells, place.at)),
         None => false,
     }
 }
@@ -64,7 +70,7 @@ fn test_holds<'v>(
             compares(columns, cells, name.as_slice(), *comparison, values),
             behind(values),
         ),
-        Test::Null(name, negated) => (is_empty(columns, cells, name.as_slice(), *negated), values),
+        Test::Null(name, negated) => (tests_null(columns, cells, name.as_slice(), *negated), values),
     }
 }
 

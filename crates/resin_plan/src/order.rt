@@ -7,7 +7,7 @@ ghost use Rattle.resin_plan.specs.Cells.{cell_order};
 ghost use Rattle.resin_plan.specs.Conditions.{where_holds};
 ghost use Rattle.resin_plan.specs.Rows.{ordered, limited};
 
-use crate::cells::{cell_order, value_at};
+use crate::cells::{order_or_null, value_at};
 use crate::columns::{Place, found};
 use crate::conditions::where_holds;
 use resin_base::{Cell, Column, Row, StoredCell};
@@ -44,9 +44,9 @@ fn row_order(place: Place, descending: bool, a: &[Cell], b: &[Cell]) -> Ordering
     let first = value_at(a, place.at);
     let second = value_at(b, place.at);
     if descending {
-        cell_order(place.kind, second, first)
+        order_or_null(place.kind, second, first)
     } else {
-        cell_order(place.kind, first, second)
+        order_or_null(place.kind, first, second)
     }
 }
 

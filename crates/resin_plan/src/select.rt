@@ -7,7 +7,7 @@ ghost use Rattle.resin_plan.specs.Statements as plan;
 ghost use Rattle.resin_plan.specs.TableCalls.{keeping};
 
 use crate::answer::{SqlAnswer, SqlResult};
-use crate::cells::{copied, fits, shadow_at, value_at};
+use crate::cells::{copied_or_null, fits_or_null, shadow_at, value_at};
 use crate::columns::{Place, found};
 use crate::conditions::where_cause;
 use crate::keeper::table_rows;
@@ -28,9 +28,9 @@ fn answered_at(
     ensures { IfOk result (λ cell. cell ≡ answered_at cells.now place) }
 {
     match place {
-        Some(place) if fits(place.kind, value_at(cells, place.at)) => {
-            let value = copied(alloc, value_at(cells, place.at))?;
-            let shadow = copied(alloc, shadow_at(cells, place.at))?;
+        Some(place) if fits_or_null(place.kind, value_at(cells, place.at)) => {
+            let value = copied_or_null(alloc, value_at(cells, place.at))?;
+            let shadow = copied_or_null(alloc, shadow_at(cells, place.at))?;
             Ok(StoredCell { value, shadow })
         }
         _ => Ok(StoredCell {

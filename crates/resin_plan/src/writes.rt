@@ -2,11 +2,10 @@
 
 ghost use Rattle.std.specs.Prelude.{◌≡◌, ◌++◌, ◌∷◌, [], IfOk, OnOk};
 ghost use Rattle.std.specs.Option.{option_copied};
-ghost use Rattle.resin_base.specs.declared.cell.Cell.{Cell};
-ghost use Rattle.resin_base.specs.declared.cell.Cell.TheVariants as cell;
+ghost use Rattle.resin_plan.specs.Cells.{or_null};
 ghost use Rattle.resin_plan.specs.Rows.{given, stored_or, stored_at, changed, blank};
 
-use crate::cells::{copied, shadow_at, value_at};
+use crate::cells::{copied_or_null, shadow_at, value_at};
 use resin_base::{Bytes, Cell, Cells, Column, StoredCell};
 use std::alloc::{AllocError, Global};
 
@@ -26,17 +25,17 @@ pub(crate) fn given<'v>(
     None
 }
 
-/// Puts copies of two cells last.
+/// Puts copies of two cells last, NULL for one that isn't there.
 fn push_both(
     alloc: Global,
     out: &mut Cells,
-    value: &Cell,
-    shadow: &Cell,
+    value: Option<&Cell>,
+    shadow: Option<&Cell>,
 ) -> Result<(), AllocError>
-    ensures { OnOk result (out.new ≡ out.old ++ value.now ∷ shadow.now ∷ []) }
+    ensures { OnOk result (out.new ≡ out.old ++ or_null (option_copied value.entry) ∷ or_null (option_copied shadow.entry) ∷ []) }
 {
-    let value = copied(alloc, value)?;
-    let shadow = copied(alloc, shadow)?;
+    let value = copied_or_null(alloc, value)?;
+    let shadow = copied_or_null(alloc, shadow)?;
     out.push(value)?;
     out.push(shadow)
 }
@@ -49,10 +48,10 @@ fn push_column(
     old: &[Cell],
     at: usize,
 ) -> Result<(), AllocError>
-    ensures { let v = stored_or (option_copied stored) (stored_at old.now at) in OnOk result (out.new ≡ out.old ++ v.value ∷ v.shadow ∷ []) }
+    ensures { let v = stored_or (option_copied stored.entry) (stored_at old.now at) in OnOk result (out.new ≡ out.old ++ v.value ∷ v.shadow ∷ []) }
 {
     match stored {
-        Some(stored) => push_both(alloc, out, &stored.value, &stored.shadow),
+        Some(stored) => push_both(alloc, out, Some(&stored.value), Some(&stored.shadow)),
         None => push_both(alloc, out, value_at(old, at), shadow_at(old, at)),
     }
 }
