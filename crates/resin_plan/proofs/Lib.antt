@@ -1,0 +1,5 @@
+pub mod Runs
+pub mod Lists
+pub mod KeptNames
+pub mod Causes
+pub mod ConditionLaws

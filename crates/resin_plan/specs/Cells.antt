@@ -38,13 +38,13 @@ allows LessOrEqual o = is_le o
 allows Greater o = is_gt o
 allows GreaterOrEqual o = is_ge o
 
+abbrev pub allows_some : Comparison → Option Ordering → Bool
+allows_some op None = false
+allows_some op (Some o) = allows op o
+
 -- a test of a cell against a value; with NULL, and with a cell of another kind, it is false
 abbrev pub meets : Comparison → Cell → Cell → Bool
-meets op a b = by_order op (compared a b)
-  where
-    by_order : Comparison → Option Ordering → Bool
-    by_order op None = false
-    by_order op (Some o) = allows op o
+meets op a b = allows_some op (compared a b)
 
 -- `IS NULL`, and `IS NOT NULL` where it is negated; both are false of a cell of another kind than its column's
 abbrev pub meets_null : Bool → Kind → Cell → Bool

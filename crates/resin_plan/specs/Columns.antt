@@ -1,6 +1,7 @@
 -- Columns of a table: how a keeper has them, and how they are found by name.
 use Rattle.std.specs.Prelude.{◌≡◌, ℕ, ◌+◌, ◌==◌, ◌&&◌, ◌||◌, Bool, true, false, not, List, [], ◌∷◌, ◌++◌, codes, map, filter, Option, Some, None, if◌then◌else◌}
 use Rattle.std.specs.List.{list_any}
+use Rattle.std.specs.Option.{option_map}
 use Rattle.std.specs.Str.{bytes_eq}
 use Rattle.resin_base.specs.declared.cell.Column.{Column}
 use Rattle.resin_base.specs.declared.cell.Kind.{Kind}
@@ -48,11 +49,7 @@ is_shadow_of column shadow = bytes_eq shadow.name (shadow_name column.name) && i
 abbrev pub unpaired : List Column → Option (List Column)
 unpaired [] = Some []
 unpaired (column ∷ []) = None
-unpaired (column ∷ shadow ∷ rest) = if is_shadow_of column shadow then and_first column (unpaired rest) else None
-  where
-    and_first : Column → Option (List Column) → Option (List Column)
-    and_first c None = None
-    and_first c (Some cs) = Some (c ∷ cs)
+unpaired (column ∷ shadow ∷ rest) = if is_shadow_of column shadow then option_map (λ cs. column ∷ cs) (unpaired rest) else None
 
 -- The columns of a keeper's table of this project's shape: one or more pairs, no name twice. A table of another shape has none.
 abbrev pub shape : List Column → Option (List Column)

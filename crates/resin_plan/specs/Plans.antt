@@ -27,6 +27,10 @@ abbrev pub unless : Option SqlRefusal → Plan → Plan
 unless None rest = rest
 unless (Some x) rest = refuse x
 
+abbrev pub passed : Option SqlRefusal → Result (Unit {0}) SqlStop
+passed None = Ok tt
+passed (Some x) = Err (Refused x)
+
 -- The calls of plan p that a run has made so far, each answered, have led from u to v, and plan q is left.
 pub data Leads (p : Plan) (u : Keeping) : Plan → Keeping → Type 0 where
   here : Leads p u p u

@@ -1,5 +1,5 @@
 -- Why a statement is refused. Of several causes the first in the order of `SqlRefusal` is told.
-use Rattle.std.specs.Prelude.{ℕ, nat_le, ◌==◌, ◌&&◌, Bool, true, false, not, List, [], ◌∷◌, length, map, take, drop, Option, Some, None, if◌then◌else◌}
+use Rattle.std.specs.Prelude.{ℕ, nat_le, ◌==◌, ◌&&◌, Bool, true, false, not, List, [], ◌∷◌, length, map, take, drop, Option, Some, None, is_none, if◌then◌else◌}
 use Rattle.std.specs.List.{list_any}
 use Rattle.resin_base.specs.declared.cell.Column.{Column}
 use Rattle.resin_base.specs.declared.stored.StoredCell.{StoredCell}
@@ -25,16 +25,12 @@ earlier None y = y
 earlier (Some x) None = Some x
 earlier (Some x) (Some y) = if nat_le (rank x) (rank y) then Some x else Some y
 
-abbrev pub is_found : Option Place → Bool
-is_found None = false
-is_found (Some p) = true
-
 -- a column that is named where any may be
 abbrev pub name_cause : List Column → List ℕ → Option SqlRefusal
-name_cause columns name = if is_found (found columns name) then None else Some NoColumn
+name_cause columns name = if is_none (found columns name) then Some NoColumn else None
 
 abbrev pub names_cause : List Column → List (List ℕ) → Option SqlRefusal
-names_cause columns names = if list_any (λ n. not (is_found (found columns n))) names then Some NoColumn else None
+names_cause columns names = if list_any (λ n. is_none (found columns n)) names then Some NoColumn else None
 
 -- columns that are named where none may be named twice
 abbrev pub once_cause : List Column → List (List ℕ) → Option SqlRefusal

@@ -1,6 +1,7 @@
 -- Rows: what is written into them, which are chosen, in which order, and what of them is answered.
 use Rattle.std.specs.Prelude.{ℕ, ◌+◌, Bool, List, [], ◌∷◌, ◌++◌, length, map, filter, take, drop, slice_get, Option, Some, None, if◌then◌else◌}
 use Rattle.std.specs.List.{position}
+use Rattle.std.specs.Option.{option_map_or}
 use Rattle.std.specs.Ordering.{Ordering, is_lt}
 use Rattle.std.specs.Str.{bytes_eq}
 use Rattle.resin_base.specs.declared.cell.Cell.{Cell}
@@ -15,13 +16,13 @@ use Rattle.resin_plan.specs.Cells.{fits, cell_order, value_at, shadow_at}
 
 -- ---- rows that are written
 
+abbrev pub value_of_place : List StoredCell → Option ℕ → Option StoredCell
+value_of_place vs None = None
+value_of_place vs (Some i) = slice_get vs i
+
 -- the value that is given for a column: the one beside its name
 abbrev pub given : List (List ℕ) → List StoredCell → List ℕ → Option StoredCell
-given names vs name = at_place vs (position (λ n. bytes_eq n name) names)
-  where
-    at_place : List StoredCell → Option ℕ → Option StoredCell
-    at_place vs None = None
-    at_place vs (Some i) = slice_get vs i
+given names vs name = value_of_place vs (position (λ n. bytes_eq n name) names)
 
 abbrev pub stored_or : Option StoredCell → StoredCell → StoredCell
 stored_or None old = old
@@ -52,6 +53,13 @@ inserted columns names (row ∷ rows) vs = changed columns names (take (length r
 
 -- ---- rows that are answered
 
+abbrev pub cells_of : List Row → List (List Cell)
+cells_of rows = map (λ (r : Row). r.cells) rows
+
+-- the cells of the row at a place, none behind the end
+abbrev pub row_at : List (List Cell) → ℕ → List Cell
+row_at rows i = option_map_or (λ cells. cells) (slice_get rows i) []
+
 -- in the place behind those rows that do not come after it
 abbrev pub put_in_order : {A : Type 0} → (A → A → Bool) → A → List A → List A
 put_in_order before x [] = x ∷ []
@@ -63,18 +71,21 @@ in_order before [] = []
 in_order before (x ∷ xs) = put_in_order before x (in_order before xs)
 
 -- by a column, or the other way round by DESC, so that NULL is last then
+abbrev pub row_order : Place → Bool → List Cell → List Cell → Ordering
+row_order p descending a b =
+    if descending then cell_order p.kind (value_at b p.at) (value_at a p.at) else cell_order p.kind (value_at a p.at) (value_at b p.at)
+
 abbrev pub comes_before : Place → Bool → List Cell → List Cell → Bool
-comes_before p descending a b =
-    if descending then is_lt (cell_order p.kind (value_at b p.at) (value_at a p.at)) else is_lt (cell_order p.kind (value_at a p.at) (value_at b p.at))
+comes_before p descending a b = is_lt (row_order p descending a b)
+
+abbrev pub by_place : Bool → Option Place → List (List Cell) → List (List Cell)
+by_place descending None rows = rows
+by_place descending (Some p) rows = in_order (comes_before p descending) rows
 
 -- by ORDER BY, if it stands; ties stay in the order of the rows' numbers
 abbrev pub ordered : List Column → Option Order → List (List Cell) → List (List Cell)
 ordered columns None rows = rows
-ordered columns (Some order) rows = by_place (found columns order.column)
-  where
-    by_place : Option Place → List (List Cell)
-    by_place None = rows
-    by_place (Some p) = in_order (comes_before p order.descending) rows
+ordered columns (Some order) rows = by_place order.descending (found columns order.column) rows
 
 abbrev pub limited : {A : Type 0} → Option ℕ → List A → List A
 limited None rows = rows

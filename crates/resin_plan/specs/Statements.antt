@@ -16,13 +16,14 @@ use Rattle.resin_sql.specs.declared.tree.Select.{Select}
 use Rattle.resin_sql.specs.declared.tree.Stmt.{Stmt}
 use Rattle.resin_sql.specs.declared.tree.Stmt.TheVariants as statement
 use Rattle.resin_sql.specs.declared.tree.Update.{Update}
+use Rattle.resin_plan.specs.declared.answer.SqlAnswer.{SqlAnswer}
 use Rattle.resin_plan.specs.declared.answer.SqlResult.TheVariants.{Count, Rows}
 use Rattle.resin_plan.specs.TableCalls.{MakeTable, AskColumns, AskRows, AddRow, SetRow, TakeRow}
 use Rattle.resin_plan.specs.Plans.{Plan, Ask, give, refuse, unless}
 use Rattle.resin_plan.specs.Columns.{names_of, is_repeated, first_named, paired, shape}
 use Rattle.resin_plan.specs.Refusals.{earlier, name_cause, names_cause, once_cause, values_cause, rows_cause}
 use Rattle.resin_plan.specs.Conditions.{where_holds, where_cause}
-use Rattle.resin_plan.specs.Rows.{changed, inserted, ordered, limited, answered_row}
+use Rattle.resin_plan.specs.Rows.{changed, inserted, cells_of, ordered, limited, answered_row}
 
 -- so many rows were made, changed or taken out; `scanned`: how many rows the keeper gave
 abbrev pub counted : ℕ → ℕ → Plan
@@ -30,17 +31,17 @@ counted scanned n = give (record { scanned = scanned; result = Count n })
 
 -- ---- the table of a statement that isn't CREATE
 
-abbrev pub with_shape : (List Column → Option SqlRefusal) → (List Column → Plan) → Option (List Column) → Plan
-with_shape cause rest None = refuse NoTable
-with_shape cause rest (Some columns) = unless (cause columns) (rest columns)
+abbrev pub with_shape : (List Column → Plan) → Option (List Column) → Plan
+with_shape rest None = refuse NoTable
+with_shape rest (Some columns) = rest columns
 
-abbrev pub with_columns : (List Column → Option SqlRefusal) → (List Column → Plan) → Option (List Column) → Plan
-with_columns cause rest None = refuse NoTable
-with_columns cause rest (Some kept) = with_shape cause rest (shape kept)
+abbrev pub with_columns : (List Column → Plan) → Option (List Column) → Plan
+with_columns rest None = refuse NoTable
+with_columns rest (Some kept) = with_shape rest (shape kept)
 
--- its columns are asked for; then it may be refused, for these causes, or goes on
-abbrev pub on_table : List ℕ → (List Column → Option SqlRefusal) → (List Column → Plan) → Plan
-on_table name cause rest = Ask (AskColumns name) (with_columns cause rest)
+-- its columns are asked for, and the rest goes by them
+abbrev pub on_table : List ℕ → (List Column → Plan) → Plan
+on_table name rest = Ask (AskColumns name) (with_columns rest)
 
 -- ---- CREATE
 
@@ -48,7 +49,7 @@ abbrev pub created : Bool → Plan
 created true = counted 0 0
 created false = refuse TableExists
 
-abbrev pub create : Create → Plan
+unfoldable pub create : Create → Plan
 create c =
     if is_repeated (names_of c.columns) then refuse DuplicateColumn else Ask (MakeTable c.table (paired c.columns)) created
 
@@ -59,23 +60,24 @@ abbrev pub named : Option (List (List ℕ)) → List Column → List (List ℕ)
 named None columns = names_of columns
 named (Some names) columns = names
 
-abbrev pub insert_cause : Insert → List StoredCell → List Column → Option SqlRefusal
-insert_cause i vs columns =
-    let names = named i.columns columns in
-    earlier (once_cause columns names) (rows_cause columns names i.rows vs)
+abbrev pub insert_cause : Insert → List StoredCell → List Column → List (List ℕ) → Option SqlRefusal
+insert_cause i vs columns names = earlier (once_cause columns names) (rows_cause columns names i.rows vs)
 
 -- the rows are added one by one; those before a row that isn't taken stay
+abbrev pub added : Plan → Option ℕ → Plan
+added rest None = refuse Full
+added rest (Some number) = rest
+
 abbrev pub insert_rows : List ℕ → List (List Cell) → ℕ → Plan
 insert_rows name [] n = counted 0 n
 insert_rows name (cells ∷ rows) n = Ask (AddRow name cells) (added (insert_rows name rows (n + 1)))
-  where
-    added : Plan → Option ℕ → Plan
-    added rest None = refuse Full
-    added rest (Some number) = rest
 
-abbrev pub insert : Insert → List StoredCell → Plan
-insert i vs =
-    on_table i.table (insert_cause i vs) (λ columns. insert_rows i.table (inserted columns (named i.columns columns) i.rows vs) 0)
+unfoldable pub insert_into : Insert → List StoredCell → List Column → List (List ℕ) → Plan
+insert_into i vs columns names =
+    unless (insert_cause i vs columns names) (insert_rows i.table (inserted columns names i.rows vs) 0)
+
+unfoldable pub insert : Insert → List StoredCell → Plan
+insert i vs = on_table i.table (λ columns. insert_into i vs columns (named i.columns columns))
 
 -- ---- SELECT
 
@@ -83,23 +85,28 @@ abbrev pub order_cause : List Column → Option Order → Option SqlRefusal
 order_cause columns None = None
 order_cause columns (Some order) = name_cause columns order.column
 
-abbrev pub select_cause : Select → List StoredCell → List Column → Option SqlRefusal
-select_cause s vs columns =
-    earlier (names_cause columns (named s.columns columns)) (earlier (where_cause columns s.condition vs) (order_cause columns s.order))
+abbrev pub select_cause : Select → List StoredCell → List Column → List (List ℕ) → Option SqlRefusal
+select_cause s vs columns names =
+    earlier (names_cause columns names) (earlier (where_cause columns s.condition vs) (order_cause columns s.order))
 
 -- the cells of the rows that meet the condition, in order, and no more than the limit
 abbrev pub selected : Select → List StoredCell → List Column → List Row → List (List Cell)
 selected s vs columns rows =
-    limited s.limit (ordered columns s.order (filter (where_holds columns s.condition vs) (map (λ (r : Row). r.cells) rows)))
+    limited s.limit (ordered columns s.order (filter (where_holds columns s.condition vs) (cells_of rows)))
 
 -- A column that is named twice is answered once.
-abbrev pub select_answer : Select → List StoredCell → List Column → List Row → Plan
-select_answer s vs columns rows =
-    let names = first_named (named s.columns columns) in
-    give (record { scanned = length rows; result = Rows names (map (answered_row columns names) (selected s vs columns rows)) })
+unfoldable pub selection : Select → List StoredCell → List Column → List (List ℕ) → List Row → SqlAnswer
+selection s vs columns names rows = record {
+  scanned = length rows;
+  result = Rows (first_named names) (map (answered_row columns (first_named names)) (selected s vs columns rows));
+}
 
-abbrev pub select : Select → List StoredCell → Plan
-select s vs = on_table s.table (select_cause s vs) (λ columns. Ask (AskRows s.table) (select_answer s vs columns))
+unfoldable pub select_from : Select → List StoredCell → List Column → List (List ℕ) → Plan
+select_from s vs columns names =
+    unless (select_cause s vs columns names) (Ask (AskRows s.table) (λ rows. give (selection s vs columns names rows)))
+
+unfoldable pub select : Select → List StoredCell → Plan
+select s vs = on_table s.table (λ columns. select_from s vs columns (named s.columns columns))
 
 -- ---- UPDATE and DELETE
 
@@ -114,9 +121,8 @@ abbrev pub changed_names : Update → List (List ℕ)
 changed_names u = map (λ (c : Change). c.column) u.changes
 
 -- the values of the changes stand before those of the condition
-abbrev pub update_cause : Update → List StoredCell → List Column → Option SqlRefusal
-update_cause u vs columns =
-    let names = changed_names u in
+abbrev pub update_cause : Update → List StoredCell → List Column → List (List ℕ) → Option SqlRefusal
+update_cause u vs columns names =
     earlier (once_cause columns names) (earlier (values_cause columns names (take (length u.changes) vs)) (where_cause columns u.condition (drop (length u.changes) vs)))
 
 -- each chosen row is set, in the keeper's order
@@ -125,21 +131,25 @@ update_rows scanned name change [] n = counted scanned n
 update_rows scanned name change (row ∷ rows) n =
     Ask (SetRow name row.number (change row.cells)) (λ was. update_rows scanned name change rows (one_more n was))
 
-abbrev pub update : Update → List StoredCell → Plan
+unfoldable pub update_chosen : Update → List StoredCell → List Column → List (List ℕ) → List Row → Plan
+update_chosen u vs columns names rows =
+    update_rows (length rows) u.table (changed columns names (take (length u.changes) vs))
+    (chosen columns u.condition (drop (length u.changes) vs) rows) 0
+
+unfoldable pub update : Update → List StoredCell → Plan
 update u vs =
-    on_table u.table (update_cause u vs) (λ columns. Ask (AskRows u.table) (λ rows.
-        update_rows (length rows) u.table (changed columns (changed_names u) (take (length u.changes) vs))
-        (chosen columns u.condition (drop (length u.changes) vs) rows) 0))
+    on_table u.table (λ columns. unless (update_cause u vs columns (changed_names u)) (Ask (AskRows u.table) (update_chosen u vs columns (changed_names u))))
 
 -- each chosen row is taken out, in the keeper's order
 abbrev pub delete_rows : ℕ → List ℕ → List Row → ℕ → Plan
 delete_rows scanned name [] n = counted scanned n
 delete_rows scanned name (row ∷ rows) n = Ask (TakeRow name row.number) (λ was. delete_rows scanned name rows (one_more n was))
 
-abbrev pub delete : Delete → List StoredCell → Plan
-delete d vs =
-    on_table d.table (λ columns. where_cause columns d.condition vs) (λ columns. Ask (AskRows d.table) (λ rows.
-        delete_rows (length rows) d.table (chosen columns d.condition vs rows) 0))
+unfoldable pub delete_chosen : Delete → List StoredCell → List Column → List Row → Plan
+delete_chosen d vs columns rows = delete_rows (length rows) d.table (chosen columns d.condition vs rows) 0
+
+unfoldable pub delete : Delete → List StoredCell → Plan
+delete d vs = on_table d.table (λ columns. unless (where_cause columns d.condition vs) (Ask (AskRows d.table) (delete_chosen d vs columns)))
 
 -- ---- the plan of a statement, whose literals have these values, in their order
 

@@ -7,11 +7,11 @@ ghost use Rattle.resin_plan.specs.TableCalls.{keeping};
 
 use crate::answer::SqlAnswer;
 use crate::conditions::{where_cause, where_holds};
-use crate::create::counted;
+use crate::creates::counted;
 use crate::keeper::{delete_row, table_rows, update_row};
 use crate::names::changed_names;
 use crate::refusals::{earlier, once_cause, values_cause};
-use crate::table::{open, pass};
+use crate::table::{opened, pass};
 use crate::values::split;
 use crate::writes::changed;
 use resin_base::{Bytes, Calls, Column, Row, StoredCell, Tables};
@@ -28,7 +28,10 @@ fn update_rows<T: Tables>(
     rows: &[Row],
     tables: &mut T,
     calls: &mut Calls,
-) -> Result<SqlAnswer, SqlStop> {
+) -> Result<SqlAnswer, SqlStop>
+    ensures { Ends (plan.update_chosen statement.now values.now columns.now names.now rows.now) (keeping (T.stored tables.old) (T.faults tables.old) (T.answers tables.old) calls.old) result
+        (keeping (T.stored tables.new) (T.faults tables.new) (T.answers tables.new) calls.new) }
+{
     let (own, others) = split(values, statement.changes.len());
     let mut count = 0u64;
     for row in rows {
@@ -48,7 +51,9 @@ fn update_cause(
     columns: &[Column],
     names: &[Bytes],
     values: &[StoredCell],
-) -> Option<SqlRefusal> {
+) -> Option<SqlRefusal>
+    ensures { result ≡ plan.update_cause statement.now values.now columns.now names.now }
+{
     let (own, others) = split(values, statement.changes.len());
     let named = once_cause(columns, names);
     let valued = values_cause(columns, names, own);
@@ -67,7 +72,7 @@ pub(crate) fn update<T: Tables>(
         (keeping (T.stored tables.new) (T.faults tables.new) (T.answers tables.new) calls.new) }
 {
     let names = changed_names(alloc, statement.changes.as_slice())?;
-    let columns = open(alloc, tables, calls, statement.table.as_slice())?;
+    let columns = opened(alloc, tables, calls, statement.table.as_slice())?;
     pass(update_cause(
         statement,
         columns.as_slice(),
@@ -95,7 +100,10 @@ fn delete_rows<T: Tables>(
     rows: &[Row],
     tables: &mut T,
     calls: &mut Calls,
-) -> Result<SqlAnswer, SqlStop> {
+) -> Result<SqlAnswer, SqlStop>
+    ensures { Ends (plan.delete_chosen statement.now values.now columns.now rows.now) (keeping (T.stored tables.old) (T.faults tables.old) (T.answers tables.old) calls.old) result
+        (keeping (T.stored tables.new) (T.faults tables.new) (T.answers tables.new) calls.new) }
+{
     let mut count = 0u64;
     for row in rows {
         if where_holds(columns, &statement.condition, values, row.cells.as_slice()) {
@@ -117,7 +125,7 @@ pub(crate) fn delete<T: Tables>(
     ensures { Ends (plan.delete statement.now values.now) (keeping (T.stored tables.old) (T.faults tables.old) (T.answers tables.old) calls.old) result
         (keeping (T.stored tables.new) (T.faults tables.new) (T.answers tables.new) calls.new) }
 {
-    let columns = open(alloc, tables, calls, statement.table.as_slice())?;
+    let columns = opened(alloc, tables, calls, statement.table.as_slice())?;
     pass(where_cause(columns.as_slice(), &statement.condition, values))?;
     let rows = table_rows(tables, calls, statement.table.as_slice())?;
     delete_rows(

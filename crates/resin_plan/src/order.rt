@@ -1,11 +1,8 @@
 //! Which rows are answered, in which order, and how many.
 
 ghost use Rattle.std.specs.Prelude.{◌≡◌, map, filter, IfOk, OnOk};
-ghost use Rattle.std.specs.Ordering.{ordering_reverse};
-ghost use Rattle.resin_base.specs.declared.cell.Row.{Row};
-ghost use Rattle.resin_plan.specs.Cells.{cell_order};
 ghost use Rattle.resin_plan.specs.Conditions.{where_holds};
-ghost use Rattle.resin_plan.specs.Rows.{ordered, limited};
+ghost use Rattle.resin_plan.specs.Rows.{cells_of, row_at, row_order, comes_before, in_order, ordered, limited};
 
 use crate::cells::{order_or_null, value_at};
 use crate::columns::{Place, found};
@@ -16,7 +13,9 @@ use std::alloc::{AllocError, Global};
 use std::cmp::Ordering;
 
 /// The cells of the row at a place, none behind the end.
-pub(crate) fn cells_at(rows: &[Row], at: usize) -> &[Cell] {
+pub(crate) fn cells_at(rows: &[Row], at: usize) -> &[Cell]
+    ensures { result.now ≡ row_at (cells_of rows.now) at }
+{
     match rows.get(at) {
         Some(row) => row.cells.as_slice(),
         None => &[],
@@ -30,7 +29,9 @@ pub(crate) fn chosen_places(
     condition: &Option<Condition>,
     values: &[StoredCell],
     rows: &[Row],
-) -> Result<Vec<usize>, AllocError> {
+) -> Result<Vec<usize>, AllocError>
+    ensures { IfOk result (λ places. map (row_at (cells_of rows.now)) places.items ≡ filter (where_holds columns.now condition.now values.now) (cells_of rows.now)) }
+{
     let mut places = Vec::new(alloc);
     for i in 0..rows.len() {
         if where_holds(columns, condition, values, rows[i].cells.as_slice()) {
@@ -40,7 +41,9 @@ pub(crate) fn chosen_places(
     Ok(places)
 }
 
-fn row_order(place: Place, descending: bool, a: &[Cell], b: &[Cell]) -> Ordering {
+fn row_order(place: Place, descending: bool, a: &[Cell], b: &[Cell]) -> Ordering
+    ensures { result ≡ row_order place descending a.now b.now }
+{
     let first = value_at(a, place.at);
     let second = value_at(b, place.at);
     if descending {
@@ -56,7 +59,9 @@ fn sort_places(
     rows: &[Row],
     place: Place,
     descending: bool,
-) -> Result<(), AllocError> {
+) -> Result<(), AllocError>
+    ensures { OnOk result (map (row_at (cells_of rows.now)) places.new.items ≡ in_order (comes_before place descending) (map (row_at (cells_of rows.now)) places.old.items)) }
+{
     places.sort_by(|a, b| row_order(place, descending, cells_at(rows, *a), cells_at(rows, *b)))
 }
 
@@ -66,7 +71,9 @@ pub(crate) fn order_places(
     columns: &[Column],
     rows: &[Row],
     order: &Option<Order>,
-) -> Result<(), AllocError> {
+) -> Result<(), AllocError>
+    ensures { OnOk result (map (row_at (cells_of rows.now)) places.new.items ≡ ordered columns.now order.now (map (row_at (cells_of rows.now)) places.old.items)) }
+{
     match order {
         None => Ok(()),
         Some(order) => match found(columns, order.column.as_slice()) {
@@ -77,7 +84,9 @@ pub(crate) fn order_places(
 }
 
 /// Keeps as many places as a LIMIT allows that may be left out.
-pub(crate) fn limit_places(places: &mut Vec<usize>, limit: Option<u64>) {
+pub(crate) fn limit_places(places: &mut Vec<usize>, limit: Option<u64>)
+    ensures { places.new.items ≡ limited limit places.old.items }
+{
     match limit {
         Some(limit) if limit < places.len() as u64 => places.truncate(limit as usize),
         _ => {}

@@ -1,6 +1,6 @@
 //! Why a statement is refused. Of several causes the first in the order of `SqlRefusal` is told.
 
-ghost use Rattle.std.specs.Prelude.{◌≡◌};
+ghost use Rattle.std.specs.Prelude.{◌≡◌, min};
 ghost use Rattle.resin_plan.specs.Refusals.{rank, earlier, name_cause, names_cause, once_cause, value_cause, values_cause, count_cause, rows_cause};
 
 use crate::columns::{Place, found};
@@ -49,9 +49,10 @@ pub(crate) fn earlier(
 pub(crate) fn name_cause(columns: &[Column], name: &[u8]) -> Option<SqlRefusal>
     ensures { result ≡ name_cause columns.now name.now }
 {
-    match found(columns, name) {
-        Some(_) => None,
-        None => Some(SqlRefusal::NoColumn),
+    if found(columns, name).is_none() {
+        Some(SqlRefusal::NoColumn)
+    } else {
+        None
     }
 }
 
@@ -93,6 +94,12 @@ pub(crate) fn value_cause(place: Option<Place>, value: &StoredCell) -> Option<Sq
     }
 }
 
+fn least(a: usize, b: usize) -> usize
+    ensures { result ≡ min a b }
+{
+    if a <= b { a } else { b }
+}
+
 /// Values for columns, one for each.
 pub(crate) fn values_cause(
     columns: &[Column],
@@ -102,10 +109,7 @@ pub(crate) fn values_cause(
     ensures { result ≡ values_cause columns.now names.now values.now }
 {
     let mut cause = None;
-    for i in 0..names.len() {
-        if i >= values.len() {
-            break;
-        }
+    for i in 0..least(names.len(), values.len()) {
         cause = earlier(
             cause,
             value_cause(found(columns, names[i].as_slice()), &values[i]),

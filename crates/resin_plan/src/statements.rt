@@ -6,9 +6,9 @@ ghost use Rattle.resin_plan.specs.TableCalls.{keeping};
 
 use crate::answer::SqlAnswer;
 use crate::changes::{delete, update};
-use crate::create::create;
-use crate::insert::insert;
-use crate::select::select;
+use crate::creates::create;
+use crate::inserts::insert;
+use crate::selects::select;
 use resin_base::{Calls, Stored, Tables};
 use resin_sql::{SqlStop, Stmt};
 use std::alloc::Global;

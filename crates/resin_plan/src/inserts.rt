@@ -2,15 +2,16 @@
 
 ghost use Rattle.std.specs.Prelude.{◌≡◌};
 ghost use Rattle.resin_plan.specs.Plans.{Ends};
+ghost use Rattle.resin_plan.specs.Rows.{inserted};
 ghost use Rattle.resin_plan.specs.Statements as plan;
 ghost use Rattle.resin_plan.specs.TableCalls.{keeping};
 
 use crate::answer::SqlAnswer;
-use crate::create::counted;
+use crate::creates::counted;
 use crate::keeper::insert_row;
 use crate::names::names_of;
 use crate::refusals::{earlier, once_cause, rows_cause};
-use crate::table::{open, pass};
+use crate::table::{opened, pass};
 use crate::values::split;
 use crate::writes::{blank, changed};
 use resin_base::{Bytes, Calls, Column, StoredCell, Tables};
@@ -26,7 +27,10 @@ fn insert_rows<T: Tables>(
     values: &[StoredCell],
     tables: &mut T,
     calls: &mut Calls,
-) -> Result<SqlAnswer, SqlStop> {
+) -> Result<SqlAnswer, SqlStop>
+    ensures { Ends (plan.insert_rows statement.now.table (inserted columns.now names.now statement.now.rows values.now) 0) (keeping (T.stored tables.old) (T.faults tables.old) (T.answers tables.old) calls.old) result
+        (keeping (T.stored tables.new) (T.faults tables.new) (T.answers tables.new) calls.new) }
+{
     let blank = blank(alloc, columns)?;
     let mut left = values;
     let mut count = 0u64;
@@ -51,7 +55,10 @@ fn insert_into<T: Tables>(
     values: &[StoredCell],
     tables: &mut T,
     calls: &mut Calls,
-) -> Result<SqlAnswer, SqlStop> {
+) -> Result<SqlAnswer, SqlStop>
+    ensures { Ends (plan.insert_into statement.now values.now columns.now names.now) (keeping (T.stored tables.old) (T.faults tables.old) (T.answers tables.old) calls.old) result
+        (keeping (T.stored tables.new) (T.faults tables.new) (T.answers tables.new) calls.new) }
+{
     let named = once_cause(columns, names);
     let rows = rows_cause(columns, names, statement.rows.as_slice(), values);
     pass(earlier(named, rows))?;
@@ -68,7 +75,7 @@ pub(crate) fn insert<T: Tables>(
     ensures { Ends (plan.insert statement.now values.now) (keeping (T.stored tables.old) (T.faults tables.old) (T.answers tables.old) calls.old) result
         (keeping (T.stored tables.new) (T.faults tables.new) (T.answers tables.new) calls.new) }
 {
-    let columns = open(alloc, tables, calls, statement.table.as_slice())?;
+    let columns = opened(alloc, tables, calls, statement.table.as_slice())?;
     match &statement.columns {
         Some(names) => insert_into(
             alloc,

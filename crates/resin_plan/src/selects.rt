@@ -2,7 +2,7 @@
 
 ghost use Rattle.std.specs.Prelude.{◌≡◌, map, IfOk};
 ghost use Rattle.resin_plan.specs.Plans.{Ends};
-ghost use Rattle.resin_plan.specs.Rows.{answered_at, answered_row};
+ghost use Rattle.resin_plan.specs.Rows.{answered_at, answered_row, cells_of, row_at};
 ghost use Rattle.resin_plan.specs.Statements as plan;
 ghost use Rattle.resin_plan.specs.TableCalls.{keeping};
 
@@ -14,7 +14,7 @@ use crate::keeper::table_rows;
 use crate::names::{first_named, names_of};
 use crate::order::{cells_at, chosen_places, limit_places, order_places};
 use crate::refusals::{earlier, name_cause, names_cause};
-use crate::table::{open, pass};
+use crate::table::{opened, pass};
 use resin_base::{Bytes, Calls, Cell, Column, Row, Stored, StoredCell, StoredRows, Tables};
 use resin_sql::{Order, Select, SqlRefusal, SqlStop};
 use std::alloc::{AllocError, Global};
@@ -64,7 +64,9 @@ fn answered_rows(
     names: &[Bytes],
     rows: &[Row],
     places: &[usize],
-) -> Result<StoredRows, AllocError> {
+) -> Result<StoredRows, AllocError>
+    ensures { IfOk result (λ answer. answer ≡ map (λ i. answered_row columns.now names.now (row_at (cells_of rows.now) i)) places.now) }
+{
     let mut answer = StoredRows::new(alloc);
     for place in places {
         let row = answered_row(alloc, columns, names, cells_at(rows, *place))?;
@@ -91,7 +93,9 @@ fn select_answer(
     names: &[Bytes],
     values: &[StoredCell],
     rows: &[Row],
-) -> Result<SqlAnswer, AllocError> {
+) -> Result<SqlAnswer, AllocError>
+    ensures { IfOk result (λ answer. answer ≡ plan.selection statement.now values.now columns.now names.now rows.now) }
+{
     let mut places = chosen_places(alloc, columns, &statement.condition, values, rows)?;
     order_places(&mut places, columns, rows, &statement.order)?;
     limit_places(&mut places, statement.limit);
@@ -112,7 +116,10 @@ fn select_from<T: Tables>(
     values: &[StoredCell],
     tables: &mut T,
     calls: &mut Calls,
-) -> Result<SqlAnswer, SqlStop> {
+) -> Result<SqlAnswer, SqlStop>
+    ensures { Ends (plan.select_from statement.now values.now columns.now names.now) (keeping (T.stored tables.old) (T.faults tables.old) (T.answers tables.old) calls.old) result
+        (keeping (T.stored tables.new) (T.faults tables.new) (T.answers tables.new) calls.new) }
+{
     let named = names_cause(columns, names);
     let condition = where_cause(columns, &statement.condition, values);
     let order = order_cause(columns, &statement.order);
@@ -138,7 +145,7 @@ pub(crate) fn select<T: Tables>(
     ensures { Ends (plan.select statement.now values.now) (keeping (T.stored tables.old) (T.faults tables.old) (T.answers tables.old) calls.old) result
         (keeping (T.stored tables.new) (T.faults tables.new) (T.answers tables.new) calls.new) }
 {
-    let columns = open(alloc, tables, calls, statement.table.as_slice())?;
+    let columns = opened(alloc, tables, calls, statement.table.as_slice())?;
     match &statement.columns {
         Some(names) => select_from(
             alloc,

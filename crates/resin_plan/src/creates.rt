@@ -1,7 +1,7 @@
 //! CREATE.
 
 ghost use Rattle.std.specs.Prelude.{◌≡◌};
-ghost use Rattle.resin_plan.specs.Plans.{Ends};
+ghost use Rattle.resin_plan.specs.Plans.{Ends, give};
 ghost use Rattle.resin_plan.specs.Statements as plan;
 ghost use Rattle.resin_plan.specs.TableCalls.{keeping};
 
@@ -14,7 +14,9 @@ use resin_sql::{Create, SqlRefusal, SqlStop};
 use std::alloc::Global;
 
 /// The answer of a statement that made, changed or took out so many rows, of those that the keeper gave.
-pub(crate) fn counted(scanned: u64, count: u64) -> SqlAnswer {
+pub(crate) fn counted(scanned: u64, count: u64) -> SqlAnswer
+    ensures { give result ≡ plan.counted scanned count }
+{
     SqlAnswer {
         scanned,
         result: SqlResult::Count(count),
