@@ -40,7 +40,7 @@ makes_asked call s s' f f' a a' c c' (Err fault.Memory) room listed contents cau
 
 -- ---- one part and then another
 
-pub leads_then : {p q s : Plan} {u v w : Keeping} → Leads p u q v → Leads q v s w → Leads p u s w
+pub leads_then : {p q : Plan} {u v : Keeping} {s : Plan} {w : Keeping} → Leads p u q v → Leads q v s w → Leads p u s w
 leads_then l here = l
 leads_then l (behind m c) = behind (leads_then l m) c
 

@@ -1,5 +1,5 @@
 -- Numbered keeper calls on tables: what each asks, and what a keeper makes of it (the meanings of the calls stand in resin_base).
-use Rattle.std.specs.Prelude.{◌≡◌, ℕ, ◌≤◌, ◌<◌, Bool, List, Option, Result, Ok, Err, ◌⊎◌, ⊥}
+use Rattle.std.specs.Prelude.{◌≡◌, ℕ, ◌≤◌, ◌<◌, Bool, List, Option, Result, Ok, Err, ◌⊎◌}
 use Rattle.resin_base.specs.Causes.{last_count, HasCause, TellsMore, outcome}
 use Rattle.resin_base.specs.Contents.{Told}
 use Rattle.resin_base.specs.Numbering.{Lists, IsAsked}

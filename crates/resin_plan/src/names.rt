@@ -1,6 +1,6 @@
 //! Lists of names.
 
-ghost use Rattle.std.specs.Prelude.{◌≡◌, map, IfOk};
+ghost use Rattle.std.specs.Prelude.{◌≡◌, ◌++◌, ◌∷◌, [], map, IfOk};
 ghost use Rattle.resin_sql.specs.declared.tree.Change.{Change};
 ghost use Rattle.resin_plan.specs.Columns.{is_among, is_repeated, first_named, names_of};
 
