@@ -1,5 +1,6 @@
 pub mod Runs
 pub mod Lists
+pub mod Loops
 pub mod KeptNames
 pub mod Causes
 pub mod ConditionLaws

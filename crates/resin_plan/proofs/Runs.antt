@@ -89,3 +89,16 @@ pass_on (Some x) rest r is d = absurd (cc)
 
 pub goes_exit : {A : Type 0} {p : Plan} {u w : Keeping} {e : SqlStop} (rest : A → Plan) (r : Result A SqlStop) → IsErrAnd r (λ y. y ≡ e) → Ends p u (Err e) w → GoesOn p u r rest w
 goes_exit rest r h d = let y = err_from_is_err_and r h in rw (y.1, y.2) d
+
+-- ---- the other parts
+
+-- a plan that is another is run as that one
+pub ends_same : {p q : Plan} {u w : Keeping} {r : Result SqlAnswer SqlStop} → p ≡ q → Ends q u r w → Ends p u r w
+ends_same {u = u} {w = w} {r = r} e d = subst (λ (x : Plan). Ends x u r w) (sym e) d
+
+-- an answer, by the plan that it stands for
+pub gives : {p : Plan} {u : Keeping} (a : SqlAnswer) → give a ≡ p → Ends p u (Ok a) u
+gives {u = u} a e = subst (λ (x : Plan). Ends x u (Ok a) u) e (answered here)
+
+pub refuses : {p : Plan} {u : Keeping} (x : SqlRefusal) → refuse x ≡ p → Ends p u (Err (Refused x)) u
+refuses {u = u} x e = subst (λ (y : Plan). Ends y u (Err (Refused x)) u) e (refused here)

@@ -45,6 +45,12 @@ is_text Integer = false
 abbrev pub is_shadow_of : Column → Column → Bool
 is_shadow_of column shadow = bytes_eq shadow.name (shadow_name column.name) && is_text shadow.kind
 
+-- a column and the one that holds its shadows come first
+abbrev pub begins_pair : List Column → Bool
+begins_pair [] = false
+begins_pair (column ∷ []) = false
+begins_pair (column ∷ shadow ∷ rest) = is_shadow_of column shadow
+
 -- the columns without those that hold shadows, where these are pairs
 abbrev pub unpaired : List Column → Option (List Column)
 unpaired [] = Some []

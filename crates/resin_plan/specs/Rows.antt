@@ -1,6 +1,6 @@
 -- Rows: what is written into them, which are chosen, in which order, and what of them is answered.
 use Rattle.std.specs.Prelude.{ℕ, ◌+◌, Bool, List, [], ◌∷◌, ◌++◌, length, map, filter, take, drop, slice_get, Option, Some, None, if◌then◌else◌}
-use Rattle.std.specs.List.{position}
+use Rattle.std.specs.List.{position_from}
 use Rattle.std.specs.Option.{option_map_or}
 use Rattle.std.specs.declared.cmp.Ordering.{Ordering}
 use Rattle.std.specs.Ordering.{is_lt}
@@ -23,7 +23,7 @@ value_of_place vs (Some i) = slice_get vs i
 
 -- the value that is given for a column: the one beside its name
 abbrev pub given : List (List ℕ) → List StoredCell → List ℕ → Option StoredCell
-given names vs name = value_of_place vs (position (λ n. bytes_eq n name) names)
+given names vs name = value_of_place vs (position_from (λ n. bytes_eq n name) 0 names)
 
 abbrev pub stored_or : Option StoredCell → StoredCell → StoredCell
 stored_or None old = old

@@ -1,7 +1,7 @@
 //! The columns of a keeper's table, and those of a statement's.
 
-ghost use Rattle.std.specs.Prelude.{◌≡◌, ◌++◌, ◌∷◌, [], ◌&&◌, IfOk, OnOk};
-ghost use Rattle.resin_plan.specs.Columns.{shadow_name, is_text, is_shadow_of, paired, unpaired, shape, found};
+ghost use Rattle.std.specs.Prelude.{◌≡◌, ◌≤◌, ◌+◌, ◌++◌, ◌∷◌, [], true, length, drop, IfOk, OnOk};
+ghost use Rattle.resin_plan.specs.Columns.{shadow_name, is_text, is_shadow_of, begins_pair, paired, unpaired, shape, found};
 
 use crate::names::{is_repeated, names_of};
 use resin_base::{Bytes, Column, Columns, Kind};
@@ -38,13 +38,15 @@ fn is_text(kind: Kind) -> bool
 fn push_column(
     alloc: Global,
     columns: &mut Columns,
-    name: &[u8],
-    kind: Kind,
+    column: &Column,
 ) -> Result<(), AllocError>
-    ensures { OnOk result (columns.new ≡ columns.old ++ record { name = name.now; kind = kind } ∷ []) }
+    ensures { OnOk result (columns.new ≡ columns.old ++ column.now ∷ []) }
 {
-    let name = Bytes::from_slice(alloc, name)?;
-    columns.push(Column { name, kind })
+    let name = Bytes::from_slice(alloc, column.name.as_slice())?;
+    columns.push(Column {
+        name,
+        kind: column.kind,
+    })
 }
 
 /// The keeper's columns for a statement's: each with the one that holds its shadows.
@@ -53,7 +55,7 @@ pub(crate) fn paired(alloc: Global, columns: &[Column]) -> Result<Columns, Alloc
 {
     let mut kept = Columns::new(alloc);
     for column in columns {
-        push_column(alloc, &mut kept, column.name.as_slice(), column.kind)?;
+        push_column(alloc, &mut kept, column)?;
         let name = shadow_name(alloc, column.name.as_slice())?;
         kept.push(Column {
             name,
@@ -71,6 +73,18 @@ fn is_shadow_of(alloc: Global, column: &Column, shadow: &Column) -> Result<bool,
     Ok(shadow.name.as_slice() == name.as_slice() && is_text(shadow.kind))
 }
 
+/// Whether a pair stands at a place.
+fn is_pair(alloc: Global, kept: &[Column], at: usize) -> Result<bool, AllocError>
+    requires { at ≤ length kept.now }
+    ensures is { IfOk result (λ is. is ≡ begins_pair (drop at kept.now)) }
+    ensures room { IfOk result (λ is. is ≡ true → at + 2 ≤ length kept.now) }
+{
+    if kept.len() - at < 2 {
+        return Ok(false);
+    }
+    is_shadow_of(alloc, &kept[at], &kept[at + 1])
+}
+
 /// The columns of pairs, without those that hold shadows; `None` where they are no pairs.
 fn unpaired(alloc: Global, kept: &[Column]) -> Result<Option<Columns>, AllocError>
     ensures { IfOk result (λ columns. columns ≡ unpaired kept.now) }
@@ -78,10 +92,10 @@ fn unpaired(alloc: Global, kept: &[Column]) -> Result<Option<Columns>, AllocErro
     let mut columns = Columns::new(alloc);
     let mut at = 0;
     while at < kept.len() {
-        if kept.len() - at < 2 || !is_shadow_of(alloc, &kept[at], &kept[at + 1])? {
+        if !is_pair(alloc, kept, at)? {
             return Ok(None);
         }
-        push_column(alloc, &mut columns, kept[at].name.as_slice(), kept[at].kind)?;
+        push_column(alloc, &mut columns, &kept[at])?;
         at += 2;
     }
     Ok(Some(columns))

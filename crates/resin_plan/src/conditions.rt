@@ -168,9 +168,8 @@ fn condition_cause<'v>(
 {
     match condition {
         Condition::Test(test) => test_cause(columns, test, values),
-        Condition::All(parts) | Condition::Any(parts) => {
-            parts_cause(columns, parts.as_slice(), values)
-        }
+        Condition::All(parts) => parts_cause(columns, parts.as_slice(), values),
+        Condition::Any(parts) => parts_cause(columns, parts.as_slice(), values),
     }
 }
 

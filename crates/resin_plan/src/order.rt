@@ -1,6 +1,6 @@
 //! Which rows are answered, in which order, and how many.
 
-ghost use Rattle.std.specs.Prelude.{◌≡◌, map, filter, IfOk, OnOk};
+ghost use Rattle.std.specs.Prelude.{◌≡◌, ◌++◌, ◌∷◌, [], map, filter, IfOk, OnOk, if◌then◌else◌};
 ghost use Rattle.resin_plan.specs.Conditions.{where_holds};
 ghost use Rattle.resin_plan.specs.Rows.{cells_of, row_at, row_order, comes_before, in_order, ordered, limited};
 
@@ -22,6 +22,16 @@ pub(crate) fn cells_at(rows: &[Row], at: usize) -> &[Cell]
     }
 }
 
+/// Puts a place last, if it is to be.
+fn push_if(places: &mut Vec<usize>, place: usize, is: bool) -> Result<(), AllocError>
+    ensures { OnOk result (places.new.items ≡ (if is then places.old.items ++ place ∷ [] else places.old.items)) }
+{
+    if is {
+        places.push(place)?;
+    }
+    Ok(())
+}
+
 /// The places of the rows that meet a condition.
 pub(crate) fn chosen_places(
     alloc: Global,
@@ -34,9 +44,8 @@ pub(crate) fn chosen_places(
 {
     let mut places = Vec::new(alloc);
     for i in 0..rows.len() {
-        if where_holds(columns, condition, values, rows[i].cells.as_slice()) {
-            places.push(i)?;
-        }
+        let is = where_holds(columns, condition, values, rows[i].cells.as_slice());
+        push_if(&mut places, i, is)?;
     }
     Ok(places)
 }

@@ -1,6 +1,6 @@
 //! The cells of rows that statements write.
 
-ghost use Rattle.std.specs.Prelude.{◌≡◌, ◌++◌, ◌∷◌, [], IfOk, OnOk};
+ghost use Rattle.std.specs.Prelude.{◌≡◌, slice_get, ◌++◌, ◌∷◌, [], IfOk, OnOk};
 ghost use Rattle.std.specs.Option.{option_copied};
 ghost use Rattle.resin_plan.specs.Cells.{or_null};
 ghost use Rattle.resin_plan.specs.Rows.{given, stored_or, stored_at, changed, blank};
@@ -8,6 +8,12 @@ ghost use Rattle.resin_plan.specs.Rows.{given, stored_or, stored_at, changed, bl
 use crate::cells::{copied_or_null, shadow_at, value_at};
 use resin_base::{Bytes, Cell, Cells, Column, StoredCell};
 use std::alloc::{AllocError, Global};
+
+fn value_of(values: &[StoredCell], at: usize) -> Option<&StoredCell>
+    ensures { option_copied result ≡ slice_get values.now at }
+{
+    values.get(at)
+}
 
 /// The value that is given for a column, by the names of those columns for which values are given.
 pub(crate) fn given<'v>(
@@ -19,7 +25,7 @@ pub(crate) fn given<'v>(
 {
     for i in 0..names.len() {
         if names[i].as_slice() == name {
-            return values.get(i);
+            return value_of(values, i);
         }
     }
     None
