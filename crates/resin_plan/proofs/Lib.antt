@@ -1,4 +1,5 @@
 pub mod Runs
+pub mod Turns
 pub mod Lists
 pub mod Loops
 pub mod KeptNames

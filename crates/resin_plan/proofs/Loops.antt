@@ -139,3 +139,20 @@ pub pair_step : (done next kept : List Column) (at : ℕ) (is : Bool) (c : Colum
 pair_step done next kept at is c e t at_c n h =
     rw n (ap (λ xs. option_map (λ cs. (done ++ c ∷ []) ++ cs) (unpaired xs)) (sym (drop-two kept at))
     ∙ (sym (one-pair done (drop at kept) c (sym e ∙ t) (at_c ∙ sym (get-drop kept at c))) ∙ h))
+
+-- ---- rows that are chosen
+
+pub kept_step : {B : Type 0} (f : Row → B) (test : Row → Bool) (rows : List Row) (i : ℕ) (x : Row) (done next : List B) (is : Bool) (all : List B)
+    → i < length rows → x ≡ get_or rows i x → is ≡ test x → next ≡ cond is (done ++ f x ∷ []) done
+    → done ++ map f (filter test (drop i rows)) ≡ all → next ++ map f (filter test (drop (i + 1) rows)) ≡ all
+kept_step {B = B} f test rows i x done next is all lt at e n h =
+    let h' : done ++ map f (filter test (x ∷ drop (i + 1) rows)) ≡ all = subst (λ (rs : List Row). done ++ map f (filter test rs) ≡ all) (front rows i x lt at) h in
+    rw n (elim is as (λ b. is ≡ b → cond b (done ++ f x ∷ []) done ++ map f (filter test (drop (i + 1) rows)) ≡ all) [
+      | true ↦ λ t.
+          let yes : test x ≡ true = sym e ∙ t in
+          append_assoc done (f x ∷ []) (map f (filter test (drop (i + 1) rows)))
+          ∙ (sym (ap (λ b. done ++ map f (cond b (x ∷ filter test (drop (i + 1) rows)) (filter test (drop (i + 1) rows)))) yes) ∙ h')
+      | false ↦ λ t.
+          let no : test x ≡ false = sym e ∙ t in
+          sym (ap (λ b. done ++ map f (cond b (x ∷ filter test (drop (i + 1) rows)) (filter test (drop (i + 1) rows)))) no) ∙ h'
+    ] refl)

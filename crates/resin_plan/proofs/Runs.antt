@@ -12,7 +12,10 @@ use Rattle.resin_sql.specs.declared.fault.SqlRefusal.{SqlRefusal}
 use Rattle.resin_sql.specs.declared.fault.SqlStop.{SqlStop}
 use Rattle.resin_sql.specs.declared.fault.SqlStop.TheVariants.{Refused, Keeper, Spent, Memory}
 use Rattle.resin_plan.specs.declared.answer.SqlAnswer.{SqlAnswer}
-use Rattle.resin_plan.specs.TableCalls.{TableCall, Answer, Changes, Keeping, keeping, IsCalled, CallsBy, Makes, makes, Asks, ended}
+use Rattle.resin_base.specs.declared.cell.Column.{Column}
+use Rattle.resin_base.specs.declared.cell.Row.{Row}
+use Rattle.resin_plan.specs.Statements.{on_table}
+use Rattle.resin_plan.specs.TableCalls.{TableCall, MakeTable, AskRows, Answer, Changes, Keeping, keeping, IsCalled, CallsBy, Makes, makes, Asks, ended}
 use Rattle.resin_plan.specs.Plans.{Plan, Done, Ask, give, refuse, unless, passed, Leads, here, behind, Ends, answered, refused, failed, spent, wanting, wanting_in_call, GoesOn}
 
 -- ---- one call
@@ -102,3 +105,43 @@ gives {u = u} a e = subst (λ (x : Plan). Ends x u (Ok a) u) e (answered here)
 
 pub refuses : {p : Plan} {u : Keeping} (x : SqlRefusal) → refuse x ≡ p → Ends p u (Err (Refused x)) u
 refuses {u = u} x e = subst (λ (y : Plan). Ends y u (Err (Refused x)) u) e (refused here)
+
+-- ---- the table of a statement
+
+pub opened_exit : {u w : Keeping} {e : SqlStop} (name table : List ℕ) (rest : List Column → Plan) (r : Result SqlAnswer SqlStop) → IsErrAnd r (λ y. y ≡ e) → name ≡ table
+    → ((k : List Column → Plan) → Ends (on_table name k) u (Err e) w) → Ends (on_table table rest) u r w
+opened_exit {u = u} {w = w} {e = e} name table rest r h is all = ends_as r h (subst (λ (n : List ℕ). Ends (on_table n rest) u (Err e) w) is (all rest))
+
+pub opened_on : {u v w : Keeping} (name table : List ℕ) (rest : List Column → Plan) (columns : List Column) (r : Result SqlAnswer SqlStop) → name ≡ table
+    → ((k : List Column → Plan) → Leads (on_table name k) u (k columns) v) → Ends (rest columns) v r w → Ends (on_table table rest) u r w
+opened_on {u = u} {v = v} name table rest columns r is all d = ends_then (subst (λ (n : List ℕ). Leads (on_table n rest) u (rest columns) v) is (all rest)) d
+
+-- ---- calls whose arguments have other names
+
+pub rows_exit : {u w : Keeping} {e : SqlStop} (name table : List ℕ) (next : List Row → Plan) (r : Result SqlAnswer SqlStop) → IsErrAnd r (λ y. y ≡ e) → name ≡ table
+    → Makes (AskRows name) u (Err e) w → Ends (Ask (AskRows table) next) u r w
+rows_exit {u = u} {w = w} {e = e} name table next r h is m = call_exit (AskRows table) next r h here (subst (λ (n : List ℕ). Makes (AskRows n) u (Err e) w) is m)
+
+pub rows_on : {u v w : Keeping} (name table : List ℕ) (next : List Row → Plan) (rows : List Row) (r : Result SqlAnswer SqlStop) → name ≡ table
+    → Makes (AskRows name) u (Ok rows) v → Ends (next rows) v r w → Ends (Ask (AskRows table) next) u r w
+rows_on {u = u} {v = v} name table next rows r is m d =
+    ends_then (leads_on (AskRows table) next rows here (subst (λ (n : List ℕ). Makes (AskRows n) u (Ok rows) v) is m)) d
+
+pub make_exit : {u w : Keeping} {e : SqlStop} (name table : List ℕ) (columns kept : List Column) (next : Bool → Plan) (r : Result SqlAnswer SqlStop) → IsErrAnd r (λ y. y ≡ e) → name ≡ table → columns ≡ kept
+    → Makes (MakeTable name columns) u (Err e) w → Ends (Ask (MakeTable table kept) next) u r w
+make_exit {u = u} {w = w} {e = e} name table columns kept next r h is is' m =
+    call_exit (MakeTable table kept) next r h here (subst (λ (n : List ℕ). Makes (MakeTable n kept) u (Err e) w) is (subst (λ (cs : List Column). Makes (MakeTable name cs) u (Err e) w) is' m))
+
+pub make_on : {u v w : Keeping} (name table : List ℕ) (columns kept : List Column) (next : Bool → Plan) (made : Bool) (r : Result SqlAnswer SqlStop) → name ≡ table → columns ≡ kept
+    → Makes (MakeTable name columns) u (Ok made) v → Ends (next made) v r w → Ends (Ask (MakeTable table kept) next) u r w
+make_on {u = u} {v = v} name table columns kept next made r is is' m d =
+    ends_then (leads_on (MakeTable table kept) next made here (subst (λ (n : List ℕ). Makes (MakeTable n kept) u (Ok made) v) is (subst (λ (cs : List Column). Makes (MakeTable name cs) u (Ok made) v) is' m))) d
+
+-- what follows the columns, under other names of them
+pub renamed : {v w : Keeping} {r : Result SqlAnswer SqlStop} (rest : List Column → List (List ℕ) → Plan) (cs columns : List Column) (ns names : List (List ℕ)) → cs ≡ columns → ns ≡ names → Ends (rest cs ns) v r w → Ends (rest columns names) v r w
+renamed {v = v} {w = w} {r = r} rest cs columns ns names e f d =
+    subst (λ (x : List Column). Ends (rest x names) v r w) e (subst (λ (x : List (List ℕ)). Ends (rest cs x) v r w) f d)
+
+-- another name of what is left
+pub leads_same : {p q q' : Plan} {u v : Keeping} → q ≡ q' → Leads p u q v → Leads p u q' v
+leads_same {p = p} {u = u} {v = v} e l = subst (λ (x : Plan). Leads p u x v) e l

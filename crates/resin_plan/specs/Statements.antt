@@ -125,31 +125,40 @@ abbrev pub update_cause : Update → List StoredCell → List Column → List (L
 update_cause u vs columns names =
     earlier (once_cause columns names) (earlier (values_cause columns names (take (length u.changes) vs)) (where_cause columns u.condition (drop (length u.changes) vs)))
 
--- each chosen row is set, in the keeper's order
-abbrev pub update_rows : ℕ → List ℕ → (List Cell → List Cell) → List Row → ℕ → Plan
-update_rows scanned name change [] n = counted scanned n
-update_rows scanned name change (row ∷ rows) n =
-    Ask (SetRow name row.number (change row.cells)) (λ was. update_rows scanned name change rows (one_more n was))
+abbrev pub changed_row : List Column → List (List ℕ) → List StoredCell → Row → Row
+changed_row columns names vs row = record { number = row.number; cells = changed columns names vs row.cells }
 
-unfoldable pub update_chosen : Update → List StoredCell → List Column → List (List ℕ) → List Row → Plan
-update_chosen u vs columns names rows =
-    update_rows (length rows) u.table (changed columns names (take (length u.changes) vs))
-    (chosen columns u.condition (drop (length u.changes) vs) rows) 0
+-- the chosen rows with their changed cells
+unfoldable pub changed_rows : Update → List StoredCell → List Column → List (List ℕ) → List Row → List Row
+changed_rows u vs columns names rows =
+    map (changed_row columns names (take (length u.changes) vs)) (chosen columns u.condition (drop (length u.changes) vs) rows)
+
+-- each is set, in the keeper's order
+abbrev pub update_rows : ℕ → List ℕ → List Row → ℕ → Plan
+update_rows scanned name [] n = counted scanned n
+update_rows scanned name (row ∷ rows) n = Ask (SetRow name row.number row.cells) (λ was. update_rows scanned name rows (one_more n was))
+
+unfoldable pub update_in : Update → List StoredCell → List Column → List (List ℕ) → Plan
+update_in u vs columns names =
+    unless (update_cause u vs columns names) (Ask (AskRows u.table) (λ rows. update_rows (length rows) u.table (changed_rows u vs columns names rows) 0))
 
 unfoldable pub update : Update → List StoredCell → Plan
-update u vs =
-    on_table u.table (λ columns. unless (update_cause u vs columns (changed_names u)) (Ask (AskRows u.table) (update_chosen u vs columns (changed_names u))))
+update u vs = on_table u.table (λ columns. update_in u vs columns (changed_names u))
 
--- each chosen row is taken out, in the keeper's order
-abbrev pub delete_rows : ℕ → List ℕ → List Row → ℕ → Plan
+unfoldable pub chosen_numbers : List Column → Option Condition → List StoredCell → List Row → List ℕ
+chosen_numbers columns condition vs rows = map (λ (r : Row). r.number) (chosen columns condition vs rows)
+
+-- each row of these numbers is taken out, in the keeper's order
+abbrev pub delete_rows : ℕ → List ℕ → List ℕ → ℕ → Plan
 delete_rows scanned name [] n = counted scanned n
-delete_rows scanned name (row ∷ rows) n = Ask (TakeRow name row.number) (λ was. delete_rows scanned name rows (one_more n was))
+delete_rows scanned name (number ∷ numbers) n = Ask (TakeRow name number) (λ was. delete_rows scanned name numbers (one_more n was))
 
-unfoldable pub delete_chosen : Delete → List StoredCell → List Column → List Row → Plan
-delete_chosen d vs columns rows = delete_rows (length rows) d.table (chosen columns d.condition vs rows) 0
+unfoldable pub delete_in : Delete → List StoredCell → List Column → Plan
+delete_in d vs columns =
+    unless (where_cause columns d.condition vs) (Ask (AskRows d.table) (λ rows. delete_rows (length rows) d.table (chosen_numbers columns d.condition vs rows) 0))
 
 unfoldable pub delete : Delete → List StoredCell → Plan
-delete d vs = on_table d.table (λ columns. unless (where_cause columns d.condition vs) (Ask (AskRows d.table) (delete_chosen d vs columns)))
+delete d vs = on_table d.table (λ columns. delete_in d vs columns)
 
 -- ---- the plan of a statement, whose literals have these values, in their order
 

@@ -15,29 +15,31 @@ use crate::table::{opened, pass};
 use crate::values::split;
 use crate::writes::{blank, changed};
 use resin_base::{Bytes, Calls, Column, StoredCell, Tables};
-use resin_sql::{Insert, SqlRefusal, SqlStop};
+use resin_items::Items;
+use resin_sql::{Insert, Literal, SqlRefusal, SqlStop};
 use std::alloc::Global;
 
 /// Adds the rows of an INSERT into the columns of these names, one by one.
 fn insert_rows<T: Tables>(
     alloc: Global,
-    statement: &Insert,
+    table: &[u8],
     columns: &[Column],
     names: &[Bytes],
+    rows: &[Items<Literal>],
     values: &[StoredCell],
     tables: &mut T,
     calls: &mut Calls,
 ) -> Result<SqlAnswer, SqlStop>
-    ensures { Ends (plan.insert_rows statement.now.table (inserted columns.now names.now statement.now.rows values.now) 0) (keeping (T.stored tables.old) (T.faults tables.old) (T.answers tables.old) calls.old) result
+    ensures { Ends (plan.insert_rows table.now (inserted columns.now names.now rows.now values.now) 0) (keeping (T.stored tables.old) (T.faults tables.old) (T.answers tables.old) calls.old) result
         (keeping (T.stored tables.new) (T.faults tables.new) (T.answers tables.new) calls.new) }
 {
     let blank = blank(alloc, columns)?;
     let mut left = values;
     let mut count = 0u64;
-    for row in statement.rows.as_slice() {
+    for row in rows {
         let (own, others) = split(left, row.len());
         let cells = changed(alloc, columns, names, own, blank.as_slice())?;
-        if insert_row(tables, calls, statement.table.as_slice(), &cells)?.is_none() {
+        if insert_row(tables, calls, table, &cells)?.is_none() {
             return Err(SqlStop::Refused(SqlRefusal::Full));
         }
         count += 1;
@@ -59,10 +61,20 @@ fn insert_into<T: Tables>(
     ensures { Ends (plan.insert_into statement.now values.now columns.now names.now) (keeping (T.stored tables.old) (T.faults tables.old) (T.answers tables.old) calls.old) result
         (keeping (T.stored tables.new) (T.faults tables.new) (T.answers tables.new) calls.new) }
 {
+    let rows = statement.rows.as_slice();
     let named = once_cause(columns, names);
-    let rows = rows_cause(columns, names, statement.rows.as_slice(), values);
-    pass(earlier(named, rows))?;
-    insert_rows(alloc, statement, columns, names, values, tables, calls)
+    let valued = rows_cause(columns, names, rows, values);
+    pass(earlier(named, valued))?;
+    insert_rows(
+        alloc,
+        statement.table.as_slice(),
+        columns,
+        names,
+        rows,
+        values,
+        tables,
+        calls,
+    )
 }
 
 pub(crate) fn insert<T: Tables>(
