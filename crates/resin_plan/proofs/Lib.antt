@@ -1,3 +1,5 @@
+pub mod Sorting
+pub mod CellOrder
 pub mod Runs
 pub mod Turns
 pub mod Lists

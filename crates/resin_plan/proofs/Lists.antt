@@ -1,5 +1,5 @@
 -- Lists that loops go through.
-use Rattle.std.proofs.Common.{◌≡◌, ℕ, suc, ◌+◌, ◌≤◌, ◌<◌, List, [], ◌∷◌, ◌++◌, length, map, drop, take, get_or, Bool, true, false, refl, sym, ap, ◌∙◌, arith, append_assoc}
+use Rattle.std.proofs.Common.{◌≡◌, ℕ, zero, suc, ◌+◌, ◌≤◌, ◌<◌, List, [], ◌∷◌, ◌++◌, length, map, drop, take, get_or, Bool, true, false, refl, sym, ap, ◌∙◌, arith, append_assoc}
 use Rattle.std.proofs.Math.Seq.{drop-cons}
 use Rattle.std.proofs.lemmas.Grind.{common_steps}
 
@@ -16,3 +16,11 @@ pub one_more : {A B : Type 0} (f : A → B) (xs : List A) (i : ℕ) (x : A) (don
     → done ++ map f (drop i xs) ≡ whole → (done ++ f x ∷ []) ++ map f (drop (i + 1) xs) ≡ whole
 one_more f xs i x done whole lt e h =
     append_assoc done (f x ∷ []) (map f (drop (i + 1) xs)) ∙ (ap (λ ys. done ++ map f ys) (sym (front xs i x lt e)) ∙ h)
+
+pub front_number : (xs : List ℕ) (i : ℕ) → i < length xs → drop i xs ≡ get_or xs i 0 ∷ drop (i + 1) xs
+front_number xs i lt = front xs i (get_or xs i 0) lt (here xs i lt)
+  where
+    here : (ys : List ℕ) (k : ℕ) → k < length ys → get_or ys k 0 ≡ get_or ys k (get_or ys k 0)
+    here [] k lt = absurd (omega arith)
+    here (y ∷ ys) zero lt = refl
+    here (y ∷ ys) (suc k) lt = here ys k (omega arith)

@@ -1,5 +1,5 @@
 -- Plans of statements, turn by turn.
-use Rattle.std.proofs.Common.{◌≡◌, ℕ, zero, suc, ◌+◌, ◌≤◌, ◌<◌, List, [], ◌∷◌, ◌++◌, length, map, filter, drop, take, get_or, Bool, true, false, cond, Option, Some, None, Result, Ok, Err, refl, sym, ap, subst, ◌∙◌, is_none, arith}
+use Rattle.std.proofs.Common.{◌≡◌, ℕ, zero, suc, ◌+◌, ◌≤◌, ◌<◌, List, [], ◌∷◌, ◌++◌, length, map, filter, drop, take, get_or, Bool, true, false, cond, Option, Some, None, Result, Ok, Err, refl, sym, ap, subst, ◌∙◌, is_some, not, arith}
 use Rattle.resin_base.specs.declared.cell.Cell.{Cell}
 use Rattle.resin_base.specs.declared.cell.Column.{Column}
 use Rattle.resin_base.specs.declared.cell.Row.{Row}
@@ -32,11 +32,11 @@ create_call c e = ap (λ b. cond b (refuse DuplicateColumn) (Ask (MakeTable c.ta
 
 -- ---- INSERT
 
-pub added_none : (rest : Plan) (number : Option ℕ) (b : Bool) → b ≡ is_none number → b ≡ true → refuse Full ≡ added rest number
+pub added_none : (rest : Plan) (number : Option ℕ) (b : Bool) → is_some number ≡ not b → b ≡ true → refuse Full ≡ added rest number
 added_none rest None b e f = refl
 added_none rest (Some n) b e f = absurd (cc)
 
-pub added_some : (rest : Plan) (number : Option ℕ) (b : Bool) → b ≡ is_none number → b ≡ false → added rest number ≡ rest
+pub added_some : (rest : Plan) (number : Option ℕ) (b : Bool) → is_some number ≡ not b → b ≡ false → added rest number ≡ rest
 added_some rest None b e f = absurd (cc)
 added_some rest (Some n) b e f = refl
 
@@ -55,7 +55,7 @@ insert_turn {p = p} {u = u} {v = v} table columns names rows i r left own others
 
 map-limited : {A B : Type 0} (f : A → B) (l : Option ℕ) (xs : List A) → map f (limited l xs) ≡ limited l (map f xs)
 map-limited f None xs = refl
-map-limited f (Some n) xs = map-take n xs
+map-limited {A = A} f (Some n) xs = map-take n xs
   where
     map-take : (n : ℕ) (ys : List A) → map f (take n ys) ≡ take n (map f ys)
     map-take zero ys = refl

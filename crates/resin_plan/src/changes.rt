@@ -82,8 +82,8 @@ fn update_rows<T: Tables>(
 {
     let mut count = 0u64;
     for row in rows {
-        let was = update_row(tables, calls, table, row.number, &row.cells)?;
-        count = one_more(count, was);
+        let held = update_row(tables, calls, table, row.number, &row.cells)?;
+        count = one_more(count, held);
     }
     Ok(counted(scanned as u64, count))
 }
@@ -193,8 +193,8 @@ fn delete_rows<T: Tables>(
 {
     let mut count = 0u64;
     for number in numbers {
-        let was = delete_row(tables, calls, table, *number)?;
-        count = one_more(count, was);
+        let held = delete_row(tables, calls, table, *number)?;
+        count = one_more(count, held);
     }
     Ok(counted(scanned as u64, count))
 }

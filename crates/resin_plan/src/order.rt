@@ -71,7 +71,8 @@ fn sort_places(
 ) -> Result<(), AllocError>
     ensures { OnOk result (map (row_at (cells_of rows.now)) places.new.items ≡ in_order (comes_before place descending) (map (row_at (cells_of rows.now)) places.old.items)) }
 {
-    places.sort_by(|a, b| row_order(place, descending, cells_at(rows, *a), cells_at(rows, *b)))
+    places.sort_by(|a, b| row_order(place, descending, cells_at(rows, *a), cells_at(rows, *b)))?;
+    Ok(())
 }
 
 /// Puts places of rows in the order of an ORDER BY that may be left out.
