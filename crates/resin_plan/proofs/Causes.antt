@@ -21,11 +21,11 @@ earlier-assoc (Some x) (Some y) None = earlier-none (cond (nat_le (rank x) (rank
 earlier-assoc (Some x) (Some y) (Some z) =
     elim (nat_le (rank x) (rank y)) as (λ b. nat_le (rank x) (rank y) ≡ b → earlier (cond b (Some x) (Some y)) (Some z) ≡ earlier (Some x) (cond (nat_le (rank y) (rank z)) (Some y) (Some z))) [
       | true ↦ λ e. elim (nat_le (rank y) (rank z)) as (λ b. nat_le (rank y) (rank z) ≡ b → earlier (Some x) (Some z) ≡ earlier (Some x) (cond b (Some y) (Some z))) [
-          | true ↦ λ f. ap (λ b. cond b (Some x) (Some z)) (le-trans (rank x) (rank y) (rank z) e f) ∙ sym (ap (λ b. cond b (Some x) (Some y)) e)
-          | false ↦ λ f. refl
-        ] refl
+        | true ↦ λ f. ap (λ b. cond b (Some x) (Some z)) (le-trans (rank x) (rank y) (rank z) e f) ∙ sym (ap (λ b. cond b (Some x) (Some y)) e)
+        | false ↦ λ f. refl
+      ] refl
       | false ↦ λ e. elim (nat_le (rank y) (rank z)) as (λ b. nat_le (rank y) (rank z) ≡ b → cond b (Some y) (Some z) ≡ earlier (Some x) (cond b (Some y) (Some z))) [
-          | true ↦ λ f. sym (ap (λ b. cond b (Some x) (Some y)) e)
-          | false ↦ λ f. sym (ap (λ b. cond b (Some x) (Some z)) (gt-trans (rank x) (rank y) (rank z) e f))
-        ] refl
+        | true ↦ λ f. sym (ap (λ b. cond b (Some x) (Some y)) e)
+        | false ↦ λ f. sym (ap (λ b. cond b (Some x) (Some z)) (gt-trans (rank x) (rank y) (rank z) e f))
+      ] refl
     ] refl

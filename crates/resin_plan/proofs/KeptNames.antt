@@ -41,7 +41,7 @@ filter-behind done name (x ∷ xs) =
     let rest = filter-behind done name xs in
     rw (any-behind name x done)
     (elim (bytes_eq name x) as (λ b. cond (not (is_among x done || b)) (x ∷ filter (λ m. not (is_among m (done ++ name ∷ []))) xs) (filter (λ m. not (is_among m (done ++ name ∷ []))) xs)
-        ≡ filter (λ m. not (is_among m done)) (cond (not b) (x ∷ filter (λ m. not (bytes_eq name m)) xs) (filter (λ m. not (bytes_eq name m)) xs))) [
+    ≡ filter (λ m. not (is_among m done)) (cond (not b) (x ∷ filter (λ m. not (bytes_eq name m)) xs) (filter (λ m. not (bytes_eq name m)) xs))) [
       | true ↦ elim (is_among x done) as (λ d. cond (not (d || true)) (x ∷ filter (λ m. not (is_among m (done ++ name ∷ []))) xs) (filter (λ m. not (is_among m (done ++ name ∷ []))) xs) ≡ filter (λ m. not (is_among m done)) (filter (λ m. not (bytes_eq name m)) xs)) [ true ↦ rest | false ↦ rest ]
       | false ↦ elim (is_among x done) as (λ d. cond (not (d || false)) (x ∷ filter (λ m. not (is_among m (done ++ name ∷ []))) xs) (filter (λ m. not (is_among m (done ++ name ∷ []))) xs)
           ≡ cond (not d) (x ∷ filter (λ m. not (is_among m done)) (filter (λ m. not (bytes_eq name m)) xs)) (filter (λ m. not (is_among m done)) (filter (λ m. not (bytes_eq name m)) xs))) [ true ↦ rest | false ↦ ap (λ ys. x ∷ ys) rest ]
@@ -51,7 +51,7 @@ kept-first : (done names : List (List ℕ)) → kept_with done names ≡ done ++
 kept-first done [] = sym (append-nil done)
 kept-first done (name ∷ names) =
     elim (is_among name done) as (λ b. is_among name done ≡ b → cond b (kept_with done names) (kept_with (done ++ name ∷ []) names)
-        ≡ done ++ cond (not b) (name ∷ filter (λ m. not (is_among m done)) (filter (λ n. not (bytes_eq name n)) (first_named names))) (filter (λ m. not (is_among m done)) (filter (λ n. not (bytes_eq name n)) (first_named names)))) [
+    ≡ done ++ cond (not b) (name ∷ filter (λ m. not (is_among m done)) (filter (λ n. not (bytes_eq name n)) (first_named names))) (filter (λ m. not (is_among m done)) (filter (λ n. not (bytes_eq name n)) (first_named names)))) [
       | true ↦ λ e. kept-first done names ∙ ap (λ ys. done ++ ys) (sym (filter-under done name (first_named names) e))
       | false ↦ λ e. kept-first (done ++ name ∷ []) names ∙ (append_assoc done (name ∷ []) _ ∙ ap (λ ys. done ++ name ∷ ys) (filter-behind done name (first_named names)))
     ] refl

@@ -33,8 +33,8 @@ pub values_step : (columns : List Column) (names : List (List ℕ)) (values : Li
     → earlier next (values_cause columns (drop (i + 1) names) (drop (i + 1) values)) ≡ all
 values_step columns names values i n v acc next all lt lt' is is' e h =
     let h' : earlier acc (values_cause columns (n ∷ drop (i + 1) names) (v ∷ drop (i + 1) values)) ≡ all
-        = subst (λ (ns : List (List ℕ)). earlier acc (values_cause columns ns (v ∷ drop (i + 1) values)) ≡ all) (front names i n lt is)
-          (subst (λ (vs : List StoredCell). earlier acc (values_cause columns (drop i names) vs) ≡ all) (front values i v lt' is') h) in
+    = subst (λ (ns : List (List ℕ)). earlier acc (values_cause columns ns (v ∷ drop (i + 1) values)) ≡ all) (front names i n lt is)
+    (subst (λ (vs : List StoredCell). earlier acc (values_cause columns (drop i names) vs) ≡ all) (front values i v lt' is') h) in
     rw e (earlier-assoc acc (value_cause (found columns n) v) (values_cause columns (drop (i + 1) names) (drop (i + 1) values)) ∙ h')
 
 values-none : (columns : List Column) (names : List (List ℕ)) (values : List StoredCell) → min (length names) (length values) ≤ 0 → values_cause columns names values ≡ None
@@ -78,7 +78,7 @@ pub chosen_step : (test : List Cell → Bool) (rows : List Row) (i : ℕ) (x : R
 chosen_step test rows i x places next is all lt at e n h =
     let here : row_at (cells_of rows) i ≡ x.cells = row-at_place rows i x lt ∙ ap (λ (r : Row). r.cells) (sym at) in
     let h' : map (row_at (cells_of rows)) places ++ filter test (cells_of (x ∷ drop (i + 1) rows)) ≡ all
-        = subst (λ (rs : List Row). map (row_at (cells_of rows)) places ++ filter test (cells_of rs) ≡ all) (front rows i x lt at) h in
+    = subst (λ (rs : List Row). map (row_at (cells_of rows)) places ++ filter test (cells_of rs) ≡ all) (front rows i x lt at) h in
     rw n (elim is as (λ b. is ≡ b → map (row_at (cells_of rows)) (cond b (places ++ i ∷ []) places) ++ filter test (cells_of (drop (i + 1) rows)) ≡ all) [
       | true ↦ λ t.
           let yes : test x.cells ≡ true = sym e ∙ t in

@@ -71,11 +71,11 @@ stable-put lt o w x (y ∷ ys) =
     let ih = stable-put lt o w x ys in
     elim (lt y x) as (λ b. lt y x ≡ b → filter (ties lt w) (cond b (y ∷ put_in_order lt x ys) (x ∷ y ∷ ys)) ≡ filter (ties lt w) (x ∷ y ∷ ys)) [
       | true ↦ λ e. elim (ties lt w y) as (λ b. ties lt w y ≡ b → cond b (y ∷ filter (ties lt w) (put_in_order lt x ys)) (filter (ties lt w) (put_in_order lt x ys)) ≡ cond (ties lt w x) (x ∷ cond b (y ∷ filter (ties lt w) ys) (filter (ties lt w) ys)) (cond b (y ∷ filter (ties lt w) ys) (filter (ties lt w) ys))) [
-          | true ↦ λ t.
-              let no = not-both lt o w x y e t in
-              ap (λ zs. y ∷ zs) (ih ∙ ap (λ b. cond b (x ∷ filter (ties lt w) ys) (filter (ties lt w) ys)) no) ∙ sym (ap (λ b. cond b (x ∷ y ∷ filter (ties lt w) ys) (y ∷ filter (ties lt w) ys)) no)
-          | false ↦ λ t. ih
-        ] refl
+        | true ↦ λ t.
+            let no = not-both lt o w x y e t in
+            ap (λ zs. y ∷ zs) (ih ∙ ap (λ b. cond b (x ∷ filter (ties lt w) ys) (filter (ties lt w) ys)) no) ∙ sym (ap (λ b. cond b (x ∷ y ∷ filter (ties lt w) ys) (y ∷ filter (ties lt w) ys)) no)
+        | false ↦ λ t. ih
+      ] refl
       | false ↦ λ e. refl
     ] refl
 

@@ -47,7 +47,7 @@ pub insert_turn : {A : Type 0} {p : Plan} {u v : Keeping} (table : List ℕ) (co
     → Leads p u (Ask (AddRow table cells) (added (insert_rows table (inserted columns names (drop (i + 1) rows) others) (n + 1)))) v
 insert_turn {p = p} {u = u} {v = v} table columns names rows i r left own others old cells n lt is e f b k l =
     let l' : Leads p u (Ask (AddRow table (changed columns names (take (length r) left) (blank columns))) (added (insert_rows table (inserted columns names (drop (i + 1) rows) (drop (length r) left)) (n + 1)))) v
-        = subst (λ rs. Leads p u (insert_rows table (inserted columns names rs left) n) v) (front rows i r lt is) l in
+    = subst (λ rs. Leads p u (insert_rows table (inserted columns names rs left) n) v) (front rows i r lt is) l in
     let same : changed columns names (take (length r) left) (blank columns) ≡ cells = sym (k ∙ (λ j. changed columns names (e j) (b j))) in
     subst (λ (x : Plan). Leads p u x v) (λ j. Ask (AddRow table (same j)) (added (insert_rows table (inserted columns names (drop (i + 1) rows) (sym f j)) (n + 1)))) l'
 
@@ -77,8 +77,8 @@ unfolding selection
 select_made s vs columns names firsts rows answer one two three f c o l a =
     let f_at = row_at (cells_of rows) in
     let chosen : map f_at three ≡ limited s.limit (ordered columns s.order (filter (where_holds columns s.condition vs) (cells_of rows)))
-        = ap (map f_at) l ∙ (map-limited f_at s.limit two ∙ ap (limited s.limit) (o ∙ ap (ordered columns s.order) c)) in
+    = ap (map f_at) l ∙ (map-limited f_at s.limit two ∙ ap (limited s.limit) (o ∙ ap (ordered columns s.order) c)) in
     let rows_are : answer ≡ map (answered_row columns firsts) (limited s.limit (ordered columns s.order (filter (where_holds columns s.condition vs) (cells_of rows))))
-        = a ∙ (sym (map-map f_at (answered_row columns firsts) three) ∙ ap (map (answered_row columns firsts)) chosen) in
+    = a ∙ (sym (map-map f_at (answered_row columns firsts) three) ∙ ap (map (answered_row columns firsts)) chosen) in
     (λ i. record { scanned = length rows; result = Rows firsts (rows_are i) })
     ∙ (λ i. record { scanned = length rows; result = Rows (f i) (map (answered_row columns (f i)) (limited s.limit (ordered columns s.order (filter (where_holds columns s.condition vs) (cells_of rows))))) })

@@ -35,11 +35,7 @@ fn is_text(kind: Kind) -> bool
 }
 
 /// Puts a copy of a column last.
-fn push_column(
-    alloc: Global,
-    columns: &mut Columns,
-    column: &Column,
-) -> Result<(), AllocError>
+fn push_column(alloc: Global, columns: &mut Columns, column: &Column) -> Result<(), AllocError>
     ensures { OnOk result (columns.new ≡ columns.old ++ column.now ∷ []) }
 {
     let name = Bytes::from_slice(alloc, column.name.as_slice())?;

@@ -31,12 +31,7 @@ fn compares(
 }
 
 /// Whether the value of a column in a row of these cells is NULL, or where `negated` is not.
-fn tests_null(
-    columns: &[Column],
-    cells: &[Cell],
-    name: &[u8],
-    negated: bool,
-) -> bool
+fn tests_null(columns: &[Column], cells: &[Cell], name: &[u8], negated: bool) -> bool
     ensures { result ≡ place_meets (λ (p : Place). meets_null negated p.kind (value_at cells.now p.at)) (found columns.now name.now) }
 {
     match found(columns, name) {
@@ -70,7 +65,10 @@ fn test_holds<'v>(
             compares(columns, cells, name.as_slice(), *comparison, values),
             behind(values),
         ),
-        Test::Null(name, negated) => (tests_null(columns, cells, name.as_slice(), *negated), values),
+        Test::Null(name, negated) => (
+            tests_null(columns, cells, name.as_slice(), *negated),
+            values,
+        ),
     }
 }
 

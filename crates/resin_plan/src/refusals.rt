@@ -3,8 +3,8 @@
 ghost use Rattle.std.specs.Prelude.{◌≡◌, min};
 ghost use Rattle.resin_plan.specs.Refusals.{rank, earlier, name_cause, names_cause, once_cause, value_cause, values_cause, count_cause, rows_cause};
 
-use crate::columns::{Place, found};
 use crate::cells::fits;
+use crate::columns::{Place, found};
 use crate::names::is_repeated;
 use crate::values::split;
 use resin_base::{Bytes, Column, StoredCell};
@@ -26,22 +26,13 @@ fn rank(refusal: SqlRefusal) -> u8
 }
 
 /// The earlier of two causes, where there are any.
-pub(crate) fn earlier(
-    first: Option<SqlRefusal>,
-    second: Option<SqlRefusal>,
-) -> Option<SqlRefusal>
+pub(crate) fn earlier(first: Option<SqlRefusal>, second: Option<SqlRefusal>) -> Option<SqlRefusal>
     ensures { result ≡ earlier first second }
 {
     match (first, second) {
         (None, _) => second,
         (Some(_), None) => first,
-        (Some(x), Some(y)) => {
-            if rank(x) <= rank(y) {
-                first
-            } else {
-                second
-            }
-        }
+        (Some(x), Some(y)) => { if rank(x) <= rank(y) { first } else { second } }
     }
 }
 
@@ -143,10 +134,7 @@ pub(crate) fn rows_cause(
     for row in rows {
         let (own, others) = split(left, row.len());
         let count = count_cause(row.len(), names.len());
-        cause = earlier(
-            cause,
-            earlier(count, values_cause(columns, names, own)),
-        );
+        cause = earlier(cause, earlier(count, values_cause(columns, names, own)));
         left = others;
     }
     cause

@@ -125,14 +125,7 @@ fn select_from<T: Tables>(
     let order = order_cause(columns, &statement.order);
     pass(earlier(named, earlier(condition, order)))?;
     let rows = table_rows(tables, calls, statement.table.as_slice())?;
-    Ok(select_answer(
-        alloc,
-        statement,
-        columns,
-        names,
-        values,
-        rows.as_slice(),
-    )?)
+    Ok(select_answer(alloc, statement, columns, names, values, rows.as_slice())?)
 }
 
 pub(crate) fn select<T: Tables>(

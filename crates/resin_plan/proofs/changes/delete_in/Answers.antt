@@ -26,5 +26,5 @@ returns g c =
     (rows_on _ _ _ c.in_ok-rows.rows _ c.as_slice.ensures c.in_ok-rows.ensures
     (ends_same
     (λ i. delete_rows (length (sym c.as_slice-5.ensures i)) (sym c.as_slice-3.ensures i)
-        (sym (c.as_slice-4.ensures.value ∙ (c.in_ok-numbers.ensures ∙ ap (chosen_numbers c.args.columns.now c.args.statement.now.condition c.args.values.now) c.as_slice-2.ensures)) i) 0)
+    (sym (c.as_slice-4.ensures.value ∙ (c.in_ok-numbers.ensures ∙ ap (chosen_numbers c.args.columns.now c.args.statement.now.condition c.args.values.now) c.as_slice-2.ensures)) i) 0)
     c.delete_rows.ensures))

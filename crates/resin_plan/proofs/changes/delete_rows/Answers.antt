@@ -18,9 +18,9 @@ returns-in_err-held g c =
 pub loop-number-preserved : goal.loop-number-preserved
 loop-number-preserved g c = (
   leads_same (sym (ap (delete_rows c.args.scanned c.args.table.now (drop (c.loop-number.number-index + 1) c.args.numbers.now)) c.one_more-count.ensures.is))
-  (leads_on (TakeRow c.args.table.now (get_or c.args.numbers.now c.loop-number.number-index 0)) (λ was. delete_rows c.args.scanned c.args.table.now (drop (c.loop-number.number-index + 1) c.args.numbers.now) (one_more c.loop-number.count was)) c.in_ok-held.held
-  (leads_same (ap (λ (ns : List ℕ). delete_rows c.args.scanned c.args.table.now ns c.loop-number.count) (front_number c.args.numbers.now c.loop-number.number-index c.loop-number-test.true)) c.loop-number.invariant.0)
-  c.in_ok-held.ensures),
+      (leads_on (TakeRow c.args.table.now (get_or c.args.numbers.now c.loop-number.number-index 0)) (λ was. delete_rows c.args.scanned c.args.table.now (drop (c.loop-number.number-index + 1) c.args.numbers.now) (one_more c.loop-number.count was)) c.in_ok-held.held
+      (leads_same (ap (λ (ns : List ℕ). delete_rows c.args.scanned c.args.table.now ns c.loop-number.count) (front_number c.args.numbers.now c.loop-number.number-index c.loop-number-test.true)) c.loop-number.invariant.0)
+      c.in_ok-held.ensures),
   omega (arith, c.one_more-count.ensures.most, c.loop-number.invariant.1),
 )
 

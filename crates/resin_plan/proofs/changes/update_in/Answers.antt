@@ -26,5 +26,5 @@ returns g c =
     (rows_on _ _ _ c.in_ok-rows.rows _ c.as_slice.ensures c.in_ok-rows.ensures
     (ends_same
     (λ i. update_rows (length (sym c.as_slice-5.ensures i)) (sym c.as_slice-3.ensures i)
-        (sym (c.as_slice-4.ensures ∙ (c.in_ok-out.ensures ∙ ap (changed_rows c.args.statement.now c.args.values.now c.args.columns.now c.args.names.now) c.as_slice-2.ensures)) i) 0)
+    (sym (c.as_slice-4.ensures ∙ (c.in_ok-out.ensures ∙ ap (changed_rows c.args.statement.now c.args.values.now c.args.columns.now c.args.names.now) c.as_slice-2.ensures)) i) 0)
     c.update_rows.ensures))

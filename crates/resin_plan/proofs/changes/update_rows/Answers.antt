@@ -19,9 +19,9 @@ returns-in_err-held g c =
 pub loop-row-preserved : goal.loop-row-preserved
 loop-row-preserved g c = (
   leads_same (sym (ap (update_rows c.args.scanned c.args.table.now (drop (c.loop-row.row-index + 1) c.args.rows.now)) c.one_more-count.ensures.is))
-  (leads_on (SetRow c.args.table.now c.row-item.result.number c.row-item.result.cells) (λ was. update_rows c.args.scanned c.args.table.now (drop (c.loop-row.row-index + 1) c.args.rows.now) (one_more c.loop-row.count was)) c.in_ok-held.held
-  (leads_same (ap (λ (rs : List Row). update_rows c.args.scanned c.args.table.now rs c.loop-row.count) (front c.args.rows.now c.loop-row.row-index c.row-item.result c.loop-row-test.true c.row-item.is)) c.loop-row.invariant.0)
-  c.in_ok-held.ensures),
+      (leads_on (SetRow c.args.table.now c.row-item.result.number c.row-item.result.cells) (λ was. update_rows c.args.scanned c.args.table.now (drop (c.loop-row.row-index + 1) c.args.rows.now) (one_more c.loop-row.count was)) c.in_ok-held.held
+      (leads_same (ap (λ (rs : List Row). update_rows c.args.scanned c.args.table.now rs c.loop-row.count) (front c.args.rows.now c.loop-row.row-index c.row-item.result c.loop-row-test.true c.row-item.is)) c.loop-row.invariant.0)
+      c.in_ok-held.ensures),
   omega (arith, c.one_more-count.ensures.most, c.loop-row.invariant.1),
 )
 

@@ -40,5 +40,5 @@ parts_cause-loop-part-preserved t c =
     (parts_cause (map (condition_cause c.args.columns.now) c.args.parts.now) c.args.values.now)
     c.condition_cause-one.ensures.is c.condition_cause-one.ensures.left c.earlier-cause.ensures
     (subst (λ (ps : List Condition). (earlier c.loop-part.cause (parts_cause (map (condition_cause c.args.columns.now) ps) c.loop-part.left.now).0 ≡ (parts_cause (map (condition_cause c.args.columns.now) c.args.parts.now) c.args.values.now).0)
-        × ((parts_cause (map (condition_cause c.args.columns.now) ps) c.loop-part.left.now).1 ≡ (parts_cause (map (condition_cause c.args.columns.now) c.args.parts.now) c.args.values.now).1))
+    × ((parts_cause (map (condition_cause c.args.columns.now) ps) c.loop-part.left.now).1 ≡ (parts_cause (map (condition_cause c.args.columns.now) c.args.parts.now) c.args.values.now).1))
     (front c.args.parts.now c.loop-part.part-index c.part-item.result c.loop-part-test.true c.part-item.is) c.loop-part.invariant)

@@ -39,11 +39,11 @@ returns-then-is_none g c =
 pub loop-row-preserved : goal.loop-row-preserved
 loop-row-preserved g c = (
   leads_same (added_some _ c.in_ok-insert_row.field-0 c.is_none.result c.is_none.ensures c.if-is_none.false)
-  (leads_on (AddRow c.args.table.now c.in_ok-cells.cells) _ c.in_ok-insert_row.field-0
-  (insert_turn c.args.table.now c.args.columns.now c.args.names.now c.args.rows.now c.loop-row.row-index c.row-item.result c.loop-row.left.now c.split.result.0.now c.split.result.1.now c.as_slice.result.now c.in_ok-cells.cells c.loop-row.count
-  c.loop-row-test.true c.row-item.is (c.split.ensures.own ∙ ap (λ n. take n c.loop-row.left.now) c.len.ensures) (c.split.ensures.others ∙ ap (λ n. drop n c.loop-row.left.now) c.len.ensures)
-  (c.as_slice.ensures ∙ c.in_ok-blank.ensures) c.in_ok-cells.ensures c.loop-row.invariant.0)
-  c.in_ok-insert_row.ensures),
+      (leads_on (AddRow c.args.table.now c.in_ok-cells.cells) _ c.in_ok-insert_row.field-0
+      (insert_turn c.args.table.now c.args.columns.now c.args.names.now c.args.rows.now c.loop-row.row-index c.row-item.result c.loop-row.left.now c.split.result.0.now c.split.result.1.now c.as_slice.result.now c.in_ok-cells.cells c.loop-row.count
+      c.loop-row-test.true c.row-item.is (c.split.ensures.own ∙ ap (λ n. take n c.loop-row.left.now) c.len.ensures) (c.split.ensures.others ∙ ap (λ n. drop n c.loop-row.left.now) c.len.ensures)
+      (c.as_slice.ensures ∙ c.in_ok-blank.ensures) c.in_ok-cells.ensures c.loop-row.invariant.0)
+      c.in_ok-insert_row.ensures),
   omega (arith, c.loop-row.invariant.1),
 )
 
