@@ -1,5 +1,6 @@
 pub mod Sorting
 pub mod CellOrder
+pub mod Blaming
 pub mod Runs
 pub mod Turns
 pub mod Lists

@@ -1,5 +1,6 @@
 pub mod TableCalls
 pub mod Plans
+pub mod Blame
 pub mod Columns
 pub mod Cells
 pub mod Refusals

@@ -83,11 +83,7 @@ impl<'a> Values<'a> {
 }
 
 /// The values of a statement that was read from a text.
-pub(crate) fn stored(
-    alloc: Global,
-    text: &LText,
-    statement: &Stmt,
-) -> Result<Stored, AllocError> {
+pub(crate) fn stored(alloc: Global, text: &LText, statement: &Stmt) -> Result<Stored, AllocError> {
     let mut values = Values {
         alloc,
         text,

@@ -120,7 +120,11 @@ impl Board {
             if let Some((name, kind)) = word.split_once(':') {
                 columns.push(Column {
                     name: Bytes::from_slice(alloc, name.as_bytes())?,
-                    kind: if kind == "I" { Kind::Integer } else { Kind::Text },
+                    kind: if kind == "I" {
+                        Kind::Integer
+                    } else {
+                        Kind::Text
+                    },
                 })?;
             }
         }
@@ -259,7 +263,11 @@ impl Board {
 
     fn row_place(&self, table: usize, row: u64) -> Option<usize> {
         match self.tables.get(table) {
-            Some(held) => held.rows.as_slice().iter().position(|held| held.number == row),
+            Some(held) => held
+                .rows
+                .as_slice()
+                .iter()
+                .position(|held| held.number == row),
             None => None,
         }
     }
