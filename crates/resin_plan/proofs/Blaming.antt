@@ -23,7 +23,7 @@ called-memory {v = v} {w = w} call c = record {
   made = let e : w.calls.made ≡ v.calls.made = ap (λ (x : Calls). x.made) c.listed in omega (arith, e);
 }
 
-leads-none : {p q : Plan} {u v : Keeping} → Leads p u q v → NoneFailed u v
+leads-none : {p : Plan} {u : Keeping} {q : Plan} {v : Keeping} → Leads p u q v → NoneFailed u v
 leads-none here = record { failed = refl; faults = refl; made = omega arith }
 leads-none (behind {call = call} {answer = answer} l c) = none-then (leads-none l) (called-ok call answer c)
 

@@ -1,6 +1,6 @@
 //! A keeper of tables in memory that notes its calls. It holds tables of any shape.
 
-ghost use Rattle.std.specs.Prelude.{◌≡◌, ◌≤◌};
+ghost use Rattle.std.specs.Prelude.{◌≡◌};
 ghost use Rattle.resin_base.specs.Causes.{HasCause};
 
 use crate::show::{push_bytes, push_cell};
@@ -99,6 +99,52 @@ fn next_number(rows: &[Row]) -> Option<u64> {
     }
 }
 
+impl Held {
+    /// Where a row stands; their number where it isn't there.
+    fn row_place(&self, number: u64) -> usize {
+        for i in 0..self.rows.len() {
+            if self.rows[i].number == number {
+                return i;
+            }
+        }
+        self.rows.len()
+    }
+
+    /// Puts a row last, if its cells fit, and tells its number.
+    fn add(&mut self, alloc: Global, cells: &[Cell]) -> Result<Option<u64>, AllocError> {
+        if self.columns.as_slice().len() != cells.len() {
+            return Ok(None);
+        }
+        let Some(number) = next_number(self.rows.as_slice()) else {
+            return Ok(None);
+        };
+        let cells = copied_cells(alloc, cells)?;
+        self.rows.push(Row { number, cells })?;
+        Ok(Some(number))
+    }
+
+    /// Sets the cells of a row, if it is there and they fit.
+    fn set(&mut self, alloc: Global, number: u64, cells: &[Cell]) -> Result<bool, AllocError> {
+        let k = self.row_place(number);
+        if k >= self.rows.len() || self.columns.as_slice().len() != cells.len() {
+            return Ok(false);
+        }
+        let cells = copied_cells(alloc, cells)?;
+        self.rows[k].cells = cells;
+        Ok(true)
+    }
+
+    /// Takes a row out, if it is there.
+    fn take_out(&mut self, number: u64) -> bool {
+        let k = self.row_place(number);
+        if k >= self.rows.len() {
+            return false;
+        }
+        let _row = self.rows.remove(k);
+        true
+    }
+}
+
 impl Board {
     fn new(alloc: Global) -> Board {
         Board {
@@ -168,11 +214,14 @@ impl Board {
         Ok(())
     }
 
-    fn place(&self, name: &[u8]) -> Option<usize> {
-        self.tables
-            .as_slice()
-            .iter()
-            .position(|table| table.name.as_slice() == name)
+    /// Where a table stands; their number where it isn't there.
+    fn place(&self, name: &[u8]) -> usize {
+        for i in 0..self.tables.len() {
+            if self.tables[i].name.as_slice() == name {
+                return i;
+            }
+        }
+        self.tables.len()
     }
 
     /// Begins a call: whether it fails.
@@ -183,7 +232,7 @@ impl Board {
         self.log.push(' ')?;
         push_bytes(&mut self.log, name)?;
         let made = self.made;
-        if self.fail.as_slice().iter().any(|n| *n == made) {
+        if self.fail.lists(made) {
             self.log.push_str(" failed;")?;
             return Err(KeepFault::Failed);
         }
@@ -193,7 +242,7 @@ impl Board {
     fn made_table(&mut self, name: &[u8], columns: &Columns) -> Result<bool, KeepFault> {
         self.begin("create", name)?;
         push_columns(&mut self.log, columns.as_slice())?;
-        if self.place(name).is_some() {
+        if self.place(name) < self.tables.len() {
             self.log.push_str(" false;")?;
             return Ok(false);
         }
@@ -211,23 +260,21 @@ impl Board {
 
     fn told_columns(&mut self, name: &[u8]) -> Result<Option<Columns>, KeepFault> {
         self.begin("columns", name)?;
-        match self.place(name) {
-            None => {
-                self.log.push_str(" none;")?;
-                Ok(None)
-            }
-            Some(i) => {
-                let columns = copied_columns(self.alloc, self.tables[i].columns.as_slice())?;
-                self.log.push(';')?;
-                Ok(Some(columns))
-            }
+        let i = self.place(name);
+        if i >= self.tables.len() {
+            self.log.push_str(" none;")?;
+            return Ok(None);
         }
+        let columns = copied_columns(self.alloc, self.tables[i].columns.as_slice())?;
+        self.log.push(';')?;
+        Ok(Some(columns))
     }
 
     fn told_rows(&mut self, name: &[u8]) -> Result<Rows, KeepFault> {
         self.begin("rows", name)?;
         let mut rows = Rows::new(self.alloc);
-        if let Some(i) = self.place(name) {
+        let i = self.place(name);
+        if i < self.tables.len() {
             for row in self.tables[i].rows.as_slice() {
                 rows.push(Row {
                     number: row.number,
@@ -243,33 +290,15 @@ impl Board {
         self.begin("insert", name)?;
         push_cells(&mut self.log, cells.as_slice())?;
         let mut number = None;
-        if let Some(i) = self.place(name) {
-            if self.tables[i].columns.as_slice().len() == cells.as_slice().len() {
-                number = next_number(self.tables[i].rows.as_slice());
-            }
-            if let Some(number) = number {
-                let cells = copied_cells(self.alloc, cells.as_slice())?;
-                if self.tables[i].rows.push(Row { number, cells }).is_err() {
-                    return Err(KeepFault::Memory);
-                }
-            }
+        let i = self.place(name);
+        if i < self.tables.len() {
+            number = self.tables[i].add(self.alloc, cells.as_slice())?;
         }
         match number {
             Some(number) => write!(self.log, " {number};")?,
             None => self.log.push_str(" none;")?,
         }
         Ok(number)
-    }
-
-    fn row_place(&self, table: usize, row: u64) -> Option<usize> {
-        match self.tables.get(table) {
-            Some(held) => held
-                .rows
-                .as_slice()
-                .iter()
-                .position(|held| held.number == row),
-            None => None,
-        }
     }
 
     fn push_whether(&mut self, was: bool) -> Result<bool, KeepFault> {
@@ -281,37 +310,23 @@ impl Board {
         self.begin("update", name)?;
         write!(self.log, " {row}:")?;
         push_cells(&mut self.log, cells.as_slice())?;
-        let Some(i) = self.place(name) else {
-            return self.push_whether(false);
-        };
-        let Some(k) = self.row_place(i, row) else {
-            return self.push_whether(false);
-        };
-        if i >= self.tables.len() || k >= self.tables[i].rows.len() {
-            return self.push_whether(false);
+        let i = self.place(name);
+        let mut was = false;
+        if i < self.tables.len() {
+            was = self.tables[i].set(self.alloc, row, cells.as_slice())?;
         }
-        if self.tables[i].columns.as_slice().len() != cells.as_slice().len() {
-            return self.push_whether(false);
-        }
-        let cells = copied_cells(self.alloc, cells.as_slice())?;
-        self.tables[i].rows[k].cells = cells;
-        self.push_whether(true)
+        self.push_whether(was)
     }
 
     fn taken_row(&mut self, name: &[u8], row: u64) -> Result<bool, KeepFault> {
         self.begin("delete", name)?;
         write!(self.log, " {row}")?;
-        let Some(i) = self.place(name) else {
-            return self.push_whether(false);
-        };
-        let Some(k) = self.row_place(i, row) else {
-            return self.push_whether(false);
-        };
-        if i >= self.tables.len() || k >= self.tables[i].rows.len() {
-            return self.push_whether(false);
+        let i = self.place(name);
+        let mut was = false;
+        if i < self.tables.len() {
+            was = self.tables[i].take_out(row);
         }
-        let _row = self.tables[i].rows.remove(k);
-        self.push_whether(true)
+        self.push_whether(was)
     }
 }
 
