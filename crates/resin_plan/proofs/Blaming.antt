@@ -1,8 +1,6 @@
 -- What follows from a run.
-use Rattle.std.proofs.Common.{◌≡◌, ℕ, ◌+◌, ◌≤◌, ◌<◌, List, [], ◌∷◌, ◌++◌, Result, Ok, Err, refl, sym, ap, ◌∙◌, arith}
-use Rattle.resin_base.specs.Causes.{Counted}
+use Rattle.std.proofs.Common.{◌≡◌, ◌+◌, [], ◌∷◌, ◌++◌, Result, Ok, Err, refl, sym, ap, ◌∙◌, arith}
 use Rattle.resin_base.specs.declared.calls.Calls.{Calls}
-use Rattle.resin_base.specs.declared.faults.KeepFault.{KeepFault}
 use Rattle.resin_base.specs.declared.faults.KeepFault.TheVariants as fault
 use Rattle.resin_sql.specs.declared.fault.SqlStop.{SqlStop}
 use Rattle.resin_plan.specs.declared.answer.SqlAnswer.{SqlAnswer}

@@ -1,5 +1,5 @@
 -- The earliest of several causes.
-use Rattle.std.proofs.Common.{◌≡◌, ℕ, ◌≤◌, ◌<◌, nat_le, Bool, true, false, cond, Option, Some, None, refl, sym, ap, ◌∙◌, arith}
+use Rattle.std.proofs.Common.{◌≡◌, ℕ, nat_le, true, false, cond, Option, Some, None, refl, sym, ap, ◌∙◌, arith}
 use Rattle.std.proofs.lemmas.Bool.Decides.{nat_tests}
 use Rattle.resin_sql.specs.declared.fault.SqlRefusal.{SqlRefusal}
 use Rattle.resin_plan.specs.Refusals.{rank, earlier}

@@ -1,22 +1,20 @@
 -- What one turn of a loop does.
 use Rattle.std.proofs.Common.{◌≡◌, ℕ, zero, suc, ◌+◌, ◌-◌, ◌≤◌, ◌<◌, min, List, [], ◌∷◌, ◌++◌, length, map, filter, drop, take, get_or, Bool, true, false, cond, Option, Some, None, refl, sym, ap, subst, ◌∙◌, arith, append_assoc}
-use Rattle.std.proofs.Math.Seq.{drop-cons}
 use Rattle.std.proofs.lemmas.List.{length-drop}
-use Rattle.std.proofs.lemmas.Grind.{common_steps}
-use Rattle.std.specs.List.{position_from, slice_get}
-use Rattle.std.specs.Option.{option_map, option_map_or}
+use Rattle.std.specs.List.{position_from}
+use Rattle.std.specs.Option.{option_map}
 use Rattle.std.specs.Str.{bytes_eq}
 use Rattle.resin_base.specs.declared.cell.Cell.{Cell}
 use Rattle.resin_base.specs.declared.cell.Column.{Column}
 use Rattle.resin_base.specs.declared.cell.Row.{Row}
 use Rattle.resin_base.specs.declared.stored.StoredCell.{StoredCell}
 use Rattle.resin_sql.specs.declared.fault.SqlRefusal.{SqlRefusal}
-use Rattle.resin_plan.specs.Columns.{found, is_shadow_of, begins_pair, unpaired}
+use Rattle.resin_plan.specs.Columns.{found, begins_pair, unpaired}
 use Rattle.resin_plan.specs.Conditions.{Part, parts_cause}
 use Rattle.resin_plan.specs.Refusals.{earlier, value_cause, values_cause, count_cause, rows_cause}
 use Rattle.resin_plan.specs.Rows.{cells_of, row_at}
 use Rattle.resin_plan.proofs.Causes.{earlier-none, earlier-assoc}
-use Rattle.resin_plan.proofs.Lists.{front, nothing_left}
+use Rattle.resin_plan.proofs.Lists.{front}
 
 -- ---- causes
 

@@ -1,5 +1,5 @@
 -- How the parts of a run make a whole.
-use Rattle.std.proofs.Common.{◌≡◌, ℕ, ◌+◌, ◌≤◌, ◌<◌, List, Bool, Option, Some, None, Result, Ok, Err, inl, inr, refl, sym, ap, subst, ◌∙◌, IsErrAnd}
+use Rattle.std.proofs.Common.{◌≡◌, ℕ, ◌≤◌, ◌<◌, List, Bool, Option, Some, None, Result, Ok, Err, inl, inr, sym, ap, subst, IsErrAnd}
 use Rattle.std.proofs.lemmas.Result.{err_from_is_err_and}
 use Rattle.resin_base.specs.Causes.{last_count, HasCause, TellsMore, outcome}
 use Rattle.resin_base.specs.Contents.{Told}
@@ -15,8 +15,8 @@ use Rattle.resin_plan.specs.declared.answer.SqlAnswer.{SqlAnswer}
 use Rattle.resin_base.specs.declared.cell.Column.{Column}
 use Rattle.resin_base.specs.declared.cell.Row.{Row}
 use Rattle.resin_plan.specs.Statements.{on_table}
-use Rattle.resin_plan.specs.TableCalls.{TableCall, MakeTable, AskRows, Answer, Changes, Keeping, keeping, IsCalled, CallsBy, Makes, makes, Asks, ended}
-use Rattle.resin_plan.specs.Plans.{Plan, Done, Ask, give, refuse, unless, passed, Leads, here, behind, Ends, answered, refused, failed, spent, wanting, wanting_in_call, GoesOn}
+use Rattle.resin_plan.specs.TableCalls.{TableCall, MakeTable, AskRows, Answer, Changes, Keeping, keeping, Makes, makes, Asks, ended}
+use Rattle.resin_plan.specs.Plans.{Plan, Ask, give, refuse, unless, passed, Leads, here, behind, Ends, answered, refused, failed, spent, wanting, wanting_in_call, GoesOn}
 
 -- ---- one call
 

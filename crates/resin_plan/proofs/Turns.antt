@@ -1,16 +1,15 @@
 -- Plans of statements, turn by turn.
-use Rattle.std.proofs.Common.{◌≡◌, ℕ, zero, suc, ◌+◌, ◌≤◌, ◌<◌, List, [], ◌∷◌, ◌++◌, length, map, filter, drop, take, get_or, Bool, true, false, cond, Option, Some, None, Result, Ok, Err, refl, sym, ap, subst, ◌∙◌, is_some, not, arith}
+use Rattle.std.proofs.Common.{◌≡◌, ℕ, zero, suc, ◌+◌, ◌<◌, List, [], ◌∷◌, length, map, filter, drop, take, get_or, Bool, true, false, cond, Option, Some, None, Err, refl, sym, ap, subst, ◌∙◌, is_some, not}
 use Rattle.resin_base.specs.declared.cell.Cell.{Cell}
 use Rattle.resin_base.specs.declared.cell.Column.{Column}
 use Rattle.resin_base.specs.declared.cell.Row.{Row}
 use Rattle.resin_base.specs.declared.stored.StoredCell.{StoredCell}
-use Rattle.resin_sql.specs.declared.fault.SqlRefusal.TheVariants.{TableExists, NoTable, DuplicateColumn, Full}
+use Rattle.resin_sql.specs.declared.fault.SqlRefusal.TheVariants.{DuplicateColumn, Full}
 use Rattle.resin_sql.specs.declared.fault.SqlStop.TheVariants.{Refused}
 use Rattle.resin_sql.specs.declared.tree.Create.{Create}
 use Rattle.resin_sql.specs.declared.tree.Select.{Select}
 use Rattle.resin_plan.specs.declared.answer.SqlAnswer.{SqlAnswer}
-use Rattle.resin_plan.specs.declared.answer.SqlResult.{SqlResult}
-use Rattle.resin_plan.specs.declared.answer.SqlResult.TheVariants.{Count, Rows}
+use Rattle.resin_plan.specs.declared.answer.SqlResult.TheVariants.{Rows}
 use Rattle.resin_plan.specs.TableCalls.{Keeping, MakeTable, AddRow}
 use Rattle.resin_plan.specs.Plans.{Plan, Ask, refuse, Leads, Ends}
 use Rattle.resin_plan.specs.Columns.{names_of, is_repeated, first_named, paired}

@@ -1,5 +1,5 @@
 -- Whom the end of a run blames, in few words: what follows from the run itself (Plans.antt), whatever the plan was.
-use Rattle.std.specs.Prelude.{◌≡◌, ℕ, ◌≤◌, ◌<◌, List, [], ◌∷◌, ◌++◌, Result, Ok, Err}
+use Rattle.std.specs.Prelude.{◌≡◌, ◌≤◌, ◌<◌, [], ◌∷◌, ◌++◌, Result, Ok, Err}
 use Rattle.resin_base.specs.Causes.{last_count, Counted}
 use Rattle.resin_sql.specs.declared.fault.SqlStop.{SqlStop}
 use Rattle.resin_sql.specs.declared.fault.SqlStop.TheVariants.{Refused, Keeper, Spent, Memory}

@@ -1,5 +1,5 @@
 -- Cells: kinds, tests and order.
-use Rattle.std.specs.Prelude.{ℕ, ◌+◌, ◌*◌, Bool, true, false, not, List, [], ◌∷◌, slice_get, Option, Some, None}
+use Rattle.std.specs.Prelude.{ℕ, ◌+◌, ◌*◌, Bool, true, false, List, slice_get, Option, Some, None}
 use Rattle.std.specs.declared.cmp.Ordering.{Ordering}
 use Rattle.std.specs.Ordering.{int_cmp, bool_cmp, is_eq, is_ne, is_lt, is_le, is_gt, is_ge}
 use Rattle.resin_base.specs.Contents.{byte_order}

@@ -1,12 +1,11 @@
 -- Conditions: which rows meet them, and when their tests are refused. The literals of a condition have their values in a list, in the order
 -- in which they stand; each test takes its own from the front.
-use Rattle.std.specs.Prelude.{ℕ, ◌&&◌, ◌||◌, Bool, true, false, List, [], ◌∷◌, drop, Option, Some, None}
+use Rattle.std.specs.Prelude.{◌&&◌, ◌||◌, Bool, true, false, List, [], ◌∷◌, drop, Option, Some, None}
 use Rattle.resin_base.specs.declared.cell.Cell.{Cell}
 use Rattle.resin_base.specs.declared.cell.Cell.TheVariants as cell
 use Rattle.resin_base.specs.declared.cell.Column.{Column}
 use Rattle.resin_base.specs.declared.stored.StoredCell.{StoredCell}
 use Rattle.resin_sql.specs.declared.fault.SqlRefusal.{SqlRefusal}
-use Rattle.resin_sql.specs.declared.fault.SqlRefusal.TheVariants.{NoColumn, WrongKind}
 use Rattle.resin_sql.specs.declared.tree.Condition.{Condition, Condition-F, fold-Condition}
 use Rattle.resin_sql.specs.declared.tree.Test.{Test}
 use Rattle.resin_sql.specs.declared.tree.Test.TheVariants.{Compare, Null}

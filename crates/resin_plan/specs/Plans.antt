@@ -1,8 +1,7 @@
 -- What a statement does, as a plan: the keeper calls that it makes one after another, each by what the keeper answered to those before it,
 -- and the answer or the refusal at the end. And what it means that a run went along a plan.
-use Rattle.std.specs.Prelude.{ℕ, ◌≤◌, List, Option, Some, None, Result, Ok, Err}
+use Rattle.std.specs.Prelude.{◌≤◌, Option, Some, None, Result, Ok, Err}
 use Rattle.resin_base.specs.Causes.{last_count}
-use Rattle.resin_base.specs.declared.faults.KeepFault.{KeepFault}
 use Rattle.resin_base.specs.declared.faults.KeepFault.TheVariants as fault
 use Rattle.resin_sql.specs.declared.fault.SqlRefusal.{SqlRefusal}
 use Rattle.resin_sql.specs.declared.fault.SqlStop.{SqlStop}

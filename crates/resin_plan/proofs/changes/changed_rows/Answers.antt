@@ -1,4 +1,4 @@
-use Rattle.std.proofs.Common.{◌≡◌, ◌++◌, List, take, drop, map, sym, ap, ◌∙◌}
+use Rattle.std.proofs.Common.{◌++◌, List, take, drop, map, sym, ap, ◌∙◌}
 use Rattle.std.proofs.lemmas.List.{append-nil}
 use Rattle.resin_base.specs.declared.cell.Row.{Row}
 use Rattle.resin_plan.specs.Conditions.{where_holds}

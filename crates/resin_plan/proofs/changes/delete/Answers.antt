@@ -1,4 +1,4 @@
-use Rattle.std.proofs.Common.{◌≡◌, sym, ap, ◌∙◌}
+use Rattle.std.proofs.Common.{sym, ap}
 use Rattle.resin_plan.specs.Statements.{delete, delete_in}
 use Rattle.resin_plan.proofs.Runs.{opened_exit, opened_on, ends_same}
 use Rattle.resin_plan.proofs.changes.delete.Goals as goal

@@ -1,4 +1,4 @@
-use Rattle.std.proofs.Common.{◌≡◌, length, sym, ap, ◌∙◌}
+use Rattle.std.proofs.Common.{length, sym, ap, ◌∙◌}
 use Rattle.resin_plan.specs.Plans.{here, passed}
 use Rattle.resin_plan.specs.Statements.{delete_in, delete_rows, chosen_numbers}
 use Rattle.resin_plan.proofs.Runs.{pass_exit, pass_on, rows_exit, rows_on, wanting_exit, ends_same}

@@ -1,4 +1,4 @@
-use Rattle.std.proofs.Common.{◌≡◌, ℕ, ◌+◌, List, drop, get_or, sym, ap, ◌∙◌, arith}
+use Rattle.std.proofs.Common.{ℕ, ◌+◌, List, drop, get_or, sym, ap, ◌∙◌, arith}
 use Rattle.resin_plan.specs.Plans.{here}
 use Rattle.resin_plan.specs.Statements.{delete_rows, one_more}
 use Rattle.resin_plan.specs.TableCalls.{TakeRow}

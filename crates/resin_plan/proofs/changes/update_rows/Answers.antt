@@ -1,4 +1,4 @@
-use Rattle.std.proofs.Common.{◌≡◌, ◌+◌, List, drop, sym, ap, ◌∙◌, arith}
+use Rattle.std.proofs.Common.{◌+◌, List, drop, sym, ap, ◌∙◌, arith}
 use Rattle.resin_base.specs.declared.cell.Row.{Row}
 use Rattle.resin_plan.specs.Plans.{here}
 use Rattle.resin_plan.specs.Statements.{update_rows, one_more}

@@ -1,4 +1,4 @@
-use Rattle.std.proofs.Common.{◌≡◌, ◌≤◌, drop}
+use Rattle.std.proofs.Common.{◌≤◌, drop}
 use Rattle.resin_plan.specs.Plans.{Leads}
 use Rattle.resin_plan.specs.Statements as plan
 use Rattle.resin_plan.specs.TableCalls.{keeping}

@@ -1,4 +1,3 @@
-use Rattle.std.proofs.Common.{◌≡◌, ap, ◌∙◌, arith}
 use Rattle.resin_plan.proofs.Loops.{no_pair_left, pair_step}
 use Rattle.resin_plan.proofs.columns.unpaired.Goals as goal
 

@@ -1,4 +1,4 @@
-use Rattle.std.proofs.Common.{◌≡◌, ◌+◌, List, ◌∷◌, drop, map, ap, subst, ◌∙◌}
+use Rattle.std.proofs.Common.{◌≡◌, ◌+◌, List, drop, map, ap, subst, ◌∙◌}
 use Rattle.resin_sql.specs.declared.tree.Condition.{Condition}
 use Rattle.resin_plan.specs.Conditions.{condition_cause, parts_cause}
 use Rattle.resin_plan.specs.Refusals.{earlier}

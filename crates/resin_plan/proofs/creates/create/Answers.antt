@@ -1,4 +1,4 @@
-use Rattle.std.proofs.Common.{◌≡◌, sym, ap, ◌∙◌}
+use Rattle.std.proofs.Common.{sym, ap, ◌∙◌}
 use Rattle.resin_sql.specs.declared.fault.SqlRefusal.TheVariants.{TableExists}
 use Rattle.resin_plan.specs.Columns.{names_of, is_repeated, paired}
 use Rattle.resin_plan.specs.Plans.{here}

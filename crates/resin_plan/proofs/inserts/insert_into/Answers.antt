@@ -1,4 +1,4 @@
-use Rattle.std.proofs.Common.{◌≡◌, sym, ap, ◌∙◌}
+use Rattle.std.proofs.Common.{sym, ap, ◌∙◌}
 use Rattle.resin_plan.specs.Plans.{passed}
 use Rattle.resin_plan.specs.Refusals.{earlier, rows_cause}
 use Rattle.resin_plan.specs.Rows.{inserted}

@@ -1,8 +1,8 @@
-use Rattle.std.proofs.Common.{◌≡◌, ◌+◌, List, [], take, drop, sym, ap, ◌∙◌, arith}
+use Rattle.std.proofs.Common.{take, drop, sym, ap, ◌∙◌, arith}
 use Rattle.resin_sql.specs.declared.fault.SqlRefusal.TheVariants.{Full}
 use Rattle.resin_plan.specs.Plans.{here}
 use Rattle.resin_plan.specs.Rows.{inserted}
-use Rattle.resin_plan.specs.Statements.{insert_rows, added}
+use Rattle.resin_plan.specs.Statements.{insert_rows}
 use Rattle.resin_plan.specs.TableCalls.{AddRow}
 use Rattle.resin_plan.proofs.Lists.{nothing_left}
 use Rattle.resin_plan.proofs.Runs.{wanting_exit, call_exit, ends_then, leads_on, leads_same, gives, refuses}

@@ -1,4 +1,4 @@
-use Rattle.std.proofs.Common.{◌≡◌, sym, ap, ◌∙◌}
+use Rattle.std.proofs.Common.{sym, ap, ◌∙◌}
 use Rattle.resin_plan.proofs.KeptNames.{kept_with, kept_from_none}
 use Rattle.resin_plan.proofs.Lists.{nothing_left}
 use Rattle.resin_plan.proofs.names.first_named.Goals as goal

@@ -1,4 +1,4 @@
-use Rattle.std.proofs.Common.{◌≡◌, sym, ap, ◌∙◌}
+use Rattle.std.proofs.Common.{sym, ap, ◌∙◌}
 use Rattle.resin_base.specs.declared.cell.Row.{Row}
 use Rattle.resin_plan.specs.Conditions.{where_holds}
 use Rattle.resin_plan.proofs.Loops.{chosen_step}

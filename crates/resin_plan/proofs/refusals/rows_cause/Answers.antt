@@ -1,6 +1,5 @@
-use Rattle.std.proofs.Common.{◌≡◌, ◌+◌, List, ◌∷◌, length, take, drop, ap, subst, ◌∙◌}
+use Rattle.std.proofs.Common.{◌≡◌, ◌+◌, length, take, drop, ap, subst, ◌∙◌}
 use Rattle.resin_plan.specs.Refusals.{earlier, count_cause, rows_cause}
-use Rattle.resin_sql.specs.declared.fault.SqlRefusal.{SqlRefusal}
 use Rattle.resin_plan.proofs.Lists.{front}
 use Rattle.resin_plan.proofs.Loops.{rows_step}
 use Rattle.resin_plan.proofs.refusals.rows_cause.Goals as goal

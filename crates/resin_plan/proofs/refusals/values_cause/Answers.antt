@@ -1,4 +1,4 @@
-use Rattle.std.proofs.Common.{◌≡◌, ◌<◌, length, min, arith, ap, ◌∙◌}
+use Rattle.std.proofs.Common.{arith, ap, ◌∙◌}
 use Rattle.resin_plan.specs.Columns.{found}
 use Rattle.resin_plan.specs.Refusals.{earlier, value_cause}
 use Rattle.resin_plan.proofs.Loops.{values_step, values_done}

@@ -1,4 +1,4 @@
-use Rattle.std.proofs.Common.{◌≡◌, sym, ap, ◌∙◌}
+use Rattle.std.proofs.Common.{ap, ◌∙◌}
 use Rattle.resin_plan.specs.Plans.{here, give, passed}
 use Rattle.resin_plan.specs.Refusals.{earlier}
 use Rattle.resin_plan.specs.Statements.{select_from, selection}

@@ -1,5 +1,5 @@
 use Rattle.std.proofs.Common.{ap}
-use Rattle.resin_plan.specs.Statements.{plan, create, insert, select, update, delete}
+use Rattle.resin_plan.specs.Statements.{plan}
 use Rattle.resin_plan.proofs.Runs.{ends_same}
 use Rattle.resin_plan.proofs.statements.carry_out.Goals as goal
 

@@ -1,4 +1,4 @@
-use Rattle.std.proofs.Common.{◌≡◌, Option, Some, None, sym, ap, ◌∙◌}
+use Rattle.std.proofs.Common.{sym, ap, ◌∙◌}
 use Rattle.resin_sql.specs.declared.fault.SqlRefusal.TheVariants.{NoTable}
 use Rattle.resin_plan.specs.Columns.{shape}
 use Rattle.resin_plan.specs.Plans.{here, wanting}
