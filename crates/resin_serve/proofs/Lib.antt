@@ -16,3 +16,7 @@ pub mod Cuttings
 pub mod Lives
 pub mod Alike
 pub mod Marking
+pub mod Telling
+pub mod Recording
+pub mod Auditing
+pub mod Ends

@@ -22,7 +22,7 @@ use Rattle.resin_serve.specs.declared.give.Given.TheVariants.{Whole, Fault, Memo
 use Rattle.resin_serve.specs.declared.run.Ready.{Ready}
 use Rattle.resin_serve.specs.declared.run.Ready.TheVariants.{Wait, Bad, TooLong}
 use Rattle.resin_serve.specs.declared.status.Status.{Status}
-use Rattle.resin_serve.specs.declared.status.Status.TheVariants.{Usage, BadTrace, ReadFault, WriteFault, TraceTooLong}
+use Rattle.resin_serve.specs.declared.status.Status.TheVariants.{Usage, BadTrace, ReadFault, WriteFault, TraceTooLong, AuditRefused}
 use Rattle.resin_serve.specs.declared.status.Status.TheVariants.{Ok as StatusOk, Memory as StatusMemory, NotYet as StatusNotYet}
 use Rattle.resin_http.specs.Stream.{answers_in}
 use Rattle.resin_serve.specs.Meaning.{Meaning, Owed, fresh, order, life}
@@ -44,11 +44,11 @@ events_append : (es fs : List (TraceEvent × ℕ)) → events (es ++ fs) ≡ eve
 events_append [] fs = refl
 events_append (x ∷ es) fs = ap (λ l. x.0 ∷ l) (events_append es fs)
 
-took_none : (a : Option (List ℕ)) → Took a a []
+pub took_none : (a : Option (List ℕ)) → Took a a []
 took_none None = tt
 took_none (Some xs) = refl
 
-took_then : (a b c : Option (List ℕ)) (taken buf filled : List ℕ) (n : ℕ) → Took a b taken → Told b c (Takes buf filled (Ok n)) → Took a c (taken ++ take n filled)
+pub took_then : (a b c : Option (List ℕ)) (taken buf filled : List ℕ) (n : ℕ) → Took a b taken → Told b c (Takes buf filled (Ok n)) → Took a c (taken ++ take n filled)
 took_then None b c taken buf filled n h k = tt
 took_then (Some xs) None c taken buf filled n h k = absurd h
 took_then (Some xs) (Some ys) None taken buf filled n h k = absurd k
@@ -61,7 +61,7 @@ took_err (Some xs) (Some ys) None taken buf filled e h k = absurd k
 took_err (Some xs) (Some ys) (Some zs) taken buf filled e h k = h ∙ ap (λ l. taken ++ l) (sym k.0)
 
 -- a source that told its bytes tells those that are left, and those that were taken stood before them
-told_as : (a b : Option (List ℕ)) (taken T : List ℕ) → Took a b taken → a ≡ Some T → (U : List ℕ) × (b ≡ Some U) × (T ≡ taken ++ U)
+pub told_as : (a b : Option (List ℕ)) (taken T : List ℕ) → Took a b taken → a ≡ Some T → (U : List ℕ) × (b ≡ Some U) × (T ≡ taken ++ U)
 told_as a None taken T h p = let k : Took (Some T) None taken = subst (λ o. Took o None taken) p h in absurd k
 told_as a (Some U) taken T h p = (U, refl, subst (λ o. Took o (Some U) taken) p h)
 
@@ -73,7 +73,7 @@ runs_over status R K T left left' old new taken h p f =
     record { taken = taken; left = u.0; told = u.1; front = u.2; runs = f u.0 u.2 }
 
 -- where nothing was left, all was taken
-told_end : (a b c : Option (List ℕ)) (taken buf filled T U : List ℕ) (n : ℕ) → Took a b taken → Told b c (Takes buf filled (Ok n)) → n ≡ 0 → a ≡ Some T → c ≡ Some U → T ≡ taken
+pub told_end : (a b c : Option (List ℕ)) (taken buf filled T U : List ℕ) (n : ℕ) → Took a b taken → Told b c (Takes buf filled (Ok n)) → n ≡ 0 → a ≡ Some T → c ≡ Some U → T ≡ taken
 told_end a None c taken buf filled T U n h k z p q =
     let j : Took (Some T) None taken = subst (λ o. Took o None taken) p h in absurd j
 told_end a (Some ys) None taken buf filled T U n h k z p q = absurd (cc)
@@ -320,6 +320,7 @@ ends_as WriteFault R reader es old new K T U h f r = absurd f
 ends_as TraceTooLong R reader es old new K T U h f r = (finishes T es reader (Err LongFault) h f, r)
 ends_as StatusMemory R reader es old new K T U h f r = absurd f
 ends_as StatusNotYet R reader es old new K T U h f r = absurd f
+ends_as AuditRefused R reader es old new K T U h f r = absurd f
 
 pub ends_trace : (status : Status) (R : Meaning) (left mid left' : Option (List ℕ)) (reader : Seen) (n made : ℕ) (failed : List ℕ) (lines : List (Option Waiting)) (old new : World) (taken buf filled : List ℕ) (count : ℕ)
     → Joined Whole R left mid reader n made failed lines old new taken × Stands Wait reader → Told mid left' (Takes buf filled (Ok count)) → count ≡ 0 → Finished reader status
