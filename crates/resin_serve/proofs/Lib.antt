@@ -18,5 +18,5 @@ pub mod Alike
 pub mod Marking
 pub mod Telling
 pub mod Recording
-pub mod Auditing
+pub mod Reading_whole
 pub mod Ends
