@@ -18,5 +18,4 @@ pub mod Alike
 pub mod Marking
 pub mod Telling
 pub mod Recording
-pub mod Reading_whole
 pub mod Ends

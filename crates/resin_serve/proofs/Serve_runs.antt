@@ -44,11 +44,11 @@ events_append : (es fs : List (TraceEvent × ℕ)) → events (es ++ fs) ≡ eve
 events_append [] fs = refl
 events_append (x ∷ es) fs = ap (λ l. x.0 ∷ l) (events_append es fs)
 
-pub took_none : (a : Option (List ℕ)) → Took a a []
+took_none : (a : Option (List ℕ)) → Took a a []
 took_none None = tt
 took_none (Some xs) = refl
 
-pub took_then : (a b c : Option (List ℕ)) (taken buf filled : List ℕ) (n : ℕ) → Took a b taken → Told b c (Takes buf filled (Ok n)) → Took a c (taken ++ take n filled)
+took_then : (a b c : Option (List ℕ)) (taken buf filled : List ℕ) (n : ℕ) → Took a b taken → Told b c (Takes buf filled (Ok n)) → Took a c (taken ++ take n filled)
 took_then None b c taken buf filled n h k = tt
 took_then (Some xs) None c taken buf filled n h k = absurd h
 took_then (Some xs) (Some ys) None taken buf filled n h k = absurd k
@@ -61,7 +61,7 @@ took_err (Some xs) (Some ys) None taken buf filled e h k = absurd k
 took_err (Some xs) (Some ys) (Some zs) taken buf filled e h k = h ∙ ap (λ l. taken ++ l) (sym k.0)
 
 -- a source that told its bytes tells those that are left, and those that were taken stood before them
-pub told_as : (a b : Option (List ℕ)) (taken T : List ℕ) → Took a b taken → a ≡ Some T → (U : List ℕ) × (b ≡ Some U) × (T ≡ taken ++ U)
+told_as : (a b : Option (List ℕ)) (taken T : List ℕ) → Took a b taken → a ≡ Some T → (U : List ℕ) × (b ≡ Some U) × (T ≡ taken ++ U)
 told_as a None taken T h p = let k : Took (Some T) None taken = subst (λ o. Took o None taken) p h in absurd k
 told_as a (Some U) taken T h p = (U, refl, subst (λ o. Took o (Some U) taken) p h)
 
@@ -73,7 +73,7 @@ runs_over status R K T left left' old new taken h p f =
     record { taken = taken; left = u.0; told = u.1; front = u.2; runs = f u.0 u.2 }
 
 -- where nothing was left, all was taken
-pub told_end : (a b c : Option (List ℕ)) (taken buf filled T U : List ℕ) (n : ℕ) → Took a b taken → Told b c (Takes buf filled (Ok n)) → n ≡ 0 → a ≡ Some T → c ≡ Some U → T ≡ taken
+told_end : (a b c : Option (List ℕ)) (taken buf filled T U : List ℕ) (n : ℕ) → Took a b taken → Told b c (Takes buf filled (Ok n)) → n ≡ 0 → a ≡ Some T → c ≡ Some U → T ≡ taken
 told_end a None c taken buf filled T U n h k z p q =
     let j : Took (Some T) None taken = subst (λ o. Took o None taken) p h in absurd j
 told_end a (Some ys) None taken buf filled T U n h k z p q = absurd (cc)

@@ -1,5 +1,5 @@
 -- Events, texts and sets that a journal file can tell, one item after another.
-use Rattle.std.proofs.Common.{◌≡◌, ℕ, zero, suc, ◌+◌, ◌-◌, ◌<◌, List, [], ◌∷◌, ◌++◌, length, take, replicate, get_or, arith, subst}
+use Rattle.std.proofs.Common.{◌≡◌, ℕ, zero, suc, ◌+◌, ◌-◌, ◌<◌, List, [], ◌∷◌, ◌++◌, length, take, replicate, get_or, sym, arith, subst}
 use Rattle.resin_label.specs.Sets.{NumberSet}
 use Rattle.resin_lstr.specs.declared.text.Run.{Run}
 use Rattle.resin_lstr.specs.Runs.{spell}
@@ -7,6 +7,8 @@ use Rattle.resin_journal.specs.Events.{EventList}
 use Rattle.resin_journal.specs.declared.event.Event.{Event}
 use Rattle.resin_journal.specs.Access.{TellsNames, ClassesAreNames}
 use Rattle.resin_journal_file.specs.Limits.{Each}
+use Rattle.resin_serve.specs.declared.logging.Logging.{Logging}
+use Rattle.resin_serve.specs.Logs.{CanTell}
 
 each_last : {X : Type 0} (P : X → Type 0) (xs : List X) (x : X) → Each P xs → P x → Each P (xs ++ x ∷ [])
 each_last P [] x h p = (p, tt)
@@ -14,7 +16,7 @@ each_last P (y ∷ ys) x h p = (h.0, each_last P ys x h.1 p)
 
 -- one item more
 pub each_more : {X : Type 0} (P : X → Type 0) (xs ys : List X) (x : X) → ys ≡ xs ++ x ∷ [] → Each P xs → P x → Each P ys
-each_more P xs ys x e h p = subst (Each P) (Rattle.std.proofs.Common.sym e) (each_last P xs x h p)
+each_more P xs ys x e h p = subst (Each P) (sym e) (each_last P xs x h p)
 
 each_append : {X : Type 0} (P : X → Type 0) (xs ys : List X) → Each P xs → Each P ys → Each P (xs ++ ys)
 each_append P [] ys h k = k
@@ -34,3 +36,7 @@ pub names_at : (es : EventList) (k : ℕ) (d : Event) → k < length es → Clas
 names_at [] k d l n = absurd (omega arith)
 names_at (e ∷ es) zero d l n = n.0
 names_at (e ∷ es) (suc k) d l n = names_at es k d (omega arith) n.1
+
+-- the log can tell an answer without events
+pub told_none : (logging : Logging) (number : ℕ) (j : EventList) → j ≡ [] → (ClassesAreNames j → CanTell logging number j) → CanTell logging number []
+told_none logging number j e f = let none : ClassesAreNames [] → CanTell logging number [] = subst (λ es. ClassesAreNames es → CanTell logging number es) e f in none tt

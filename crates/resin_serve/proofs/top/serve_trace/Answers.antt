@@ -1,6 +1,7 @@
 use Rattle.std.proofs.Common.{refl, ap, arith, ◌∙◌, length-take}
 use Rattle.resin_serve.specs.Asked.{served}
 use Rattle.resin_serve.proofs.Serve_runs.{begin_run, join_at, ends_bad, ends_long, ends_fault, ends_memory, ends_unbuilt, ends_read, ends_trace, ends_full, fed_run, falls_fed}
+use Rattle.resin_serve.proofs.Ends.{ends_run}
 use Rattle.resin_serve.proofs.Keeping.{kept_none, kept_then, passes}
 use Rattle.resin_serve.proofs.top.serve_trace.Goals as goal
 
@@ -50,6 +51,9 @@ returns-in-Err-clause-kept g c = kept_then _ _ _ c.reads.invariant.kept c.in-Wai
 
 pub returns-in-Err-clause-ran : goal.returns-in-Err-clause-ran
 returns-in-Err-clause-ran g c = ends_read _ _ _ _ _ _ _ _ _ _ _ _ _ _ _ (join_at _ _ _ _ _ _ _ _ _ _ _ _ _ _ _ _ _ _ c.reads.invariant.so_far (passes _ _ c.in-Wait.ensures.kept) (ap served c.reads.invariant.service) c.in-Wait.ensures.went) c.in-Err.ensures.moved
+
+pub returns-then-count-eq0-clause-serves : goal.returns-then-count-eq0-clause-serves
+returns-then-count-eq0-clause-serves g c = ends_run _ _ c.finished.ensures
 
 pub returns-then-count-eq0-clause-kept : goal.returns-then-count-eq0-clause-kept
 returns-then-count-eq0-clause-kept g c = kept_then _ _ _ c.reads.invariant.kept c.in-Wait.ensures.kept
