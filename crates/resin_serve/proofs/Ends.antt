@@ -1,6 +1,5 @@
 -- How the top call ends: by a run, by an audit, or at once.
-use Rattle.std.proofs.Common.{◌≡◌, ◌≢◌, ℕ, ◌≤◌, ◌<◌, Bool, List, [], length, Option, sym, ap, subst, arith, inl, inr}
-use Rattle.resin_base.specs.Numbering.{RiseWithin}
+use Rattle.std.proofs.Common.{◌≡◌, ℕ, ◌≤◌, ◌<◌, Bool, List, [], length, Option, Some, None, sym, ap, ◌∙◌, subst, arith, inl, inr}
 use Rattle.resin_trace.specs.Records.{limit}
 use Rattle.resin_trace.specs.Seen.{Seen}
 use Rattle.resin_serve.specs.declared.give.Given.{Given}
@@ -12,7 +11,7 @@ use Rattle.resin_serve.specs.Gives.{Counts, Sinks, sinks, Caused, CausedIn}
 use Rattle.resin_serve.specs.Kept.{Keepers, keepers, Kept}
 use Rattle.resin_serve.specs.Whole_run.{Finished, ReadCause, given_of_status}
 use Rattle.resin_serve.specs.Headline.{Calm}
-use Rattle.resin_serve.specs.Audits.{Audits, EndsAudit, EndsRun, CompletesAudit}
+use Rattle.resin_serve.specs.Audits.{Audits, EndsRun, CompletesAudit}
 use Rattle.resin_serve.proofs.Completing.{kept_new}
 
 -- a run that ends where the trace does ends by a status of runs
@@ -27,15 +26,6 @@ ends_run s StatusMemory f = tt
 ends_run s NotYet f = tt
 ends_run s AuditRefused f = f
 
-pub run_usage : (status : Status) → EndsRun status → status ≢ Usage
-run_usage status h e = subst EndsRun e h
-
-pub run_refused : (status : Status) → EndsRun status → status ≢ AuditRefused
-run_refused status h e = subst EndsRun e h
-
-pub audit_usage : (status : Status) → EndsAudit status → status ≢ Usage
-audit_usage status h e = subst EndsAudit e h
-
 -- no call was made
 pub kept_ended : (made : ℕ) (failed : List ℕ) (files tables : Option (List Bool)) (file_faults table_faults : ℕ) → made ≡ 0 → failed ≡ []
     → Kept (keepers 0 [] files file_faults tables table_faults) (keepers made failed files file_faults tables table_faults)
@@ -43,8 +33,9 @@ kept_ended made failed files tables file_faults table_faults e f =
     subst (λ m. Kept (keepers 0 [] files file_faults tables table_faults) (keepers m failed files file_faults tables table_faults)) (sym e)
     (kept_new failed files tables file_faults table_faults f)
 
-pub none_numbered : (made : ℕ) (failed : List ℕ) → failed ≡ [] → RiseWithin 0 made failed
-none_numbered made failed f = subst (RiseWithin 0 made) (sym f) tt
+-- words that ask for something are some of the forms
+pub no_task : {A P : Type 0} (o : Option A) (a : A) → None ≡ o → o ≡ Some a → P
+no_task o a e f = let g : None ≡ Some a = e ∙ f in absurd (cc)
 
 -- only the output was given something
 pub caused_out : (g : Given) (log mail out out' : Counts) → Caused g out out' → CausedIn g (sinks log mail out) (sinks log mail out')

@@ -18,7 +18,7 @@ use Rattle.resin_serve.proofs.Giving.{part_log}
 
 -- the journal of an answer obeys the access law
 nothing_obeys : ObeysAccessLaw []
-nothing_obeys = record { placed = tt; checked = λ w l. tt; in_order = tt }
+nothing_obeys = record { placed = refl; checked = λ w l. refl; in_order = refl }
 
 law_in : (end : Option End) (n : ℕ) (r : site.Reply) → ObeysIn end n r → ObeysAccessLaw r.journal
 law_in None n r h = subst ObeysAccessLaw (sym h.journal) nothing_obeys

@@ -40,11 +40,7 @@ impl From<AllocError> for Unread {
 }
 
 /// Audits what a source holds: reads it whole, and gives the line of its verdict to the output.
-pub(crate) fn audit_source<S: Source, O: Sink>(
-    alloc: Global,
-    source: &mut S,
-    out: &mut O,
-) -> Status
+pub(crate) fn audit_source<S: Source, O: Sink>(alloc: Global, source: &mut S, out: &mut O) -> Status
     ensures audits { (all : List ℕ) → S.left source.old ≡ Some all → Audits result all (O.written out.old) (O.written out.new) }
     ensures ends { EndsAudit result }
     ensures silent { OnSilent result (out.new ≡ out.old) }

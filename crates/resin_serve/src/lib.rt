@@ -12,6 +12,8 @@ mod top;
 mod waiting;
 mod words;
 
-pub use laws::{any_cutting, asked_tells, lives_tell, one_connection, recorded_runs, same_lives, same_runs};
+pub use laws::{
+    any_cutting, asked_tells, lives_tell, one_connection, recorded_runs, same_lives, same_runs,
+};
 pub use status::{Ended, Status};
 pub use top::serve;

@@ -76,7 +76,10 @@ fn read_event(event: &Event)
             let _to = *to;
         }
         Event::FilterDenied {
-            write, filter, len, ..
+            write,
+            filter,
+            len,
+            ..
         } => {
             let _write = *write;
             let _filter = *filter;

@@ -17,8 +17,9 @@ loop-run-preserved c =
 
 pub returns : goal.returns
 returns c =
-    let rs = c.runs-run-items.result.now in
-    (c.runs-run-items.ensures.runs.short,
-    subst (Each (λ s. Each IsObject (numbers s))) c.runs-run-items.ensures.spelled
-    (each_spelled (λ s. Each IsObject (numbers s)) 0 rs
-    (subst (Each (λ (r : Run). Each IsObject (numbers r.set))) (take_all c.loop-run.run-index rs (omega arith)) c.loop-run.invariant)))
+    let rs = c.runs-run-items.result.now in (
+      c.runs-run-items.ensures.runs.short,
+      subst (Each (λ s. Each IsObject (numbers s))) c.runs-run-items.ensures.spelled
+          (each_spelled (λ s. Each IsObject (numbers s)) 0 rs
+          (subst (Each (λ (r : Run). Each IsObject (numbers r.set))) (take_all c.loop-run.run-index rs (omega arith)) c.loop-run.invariant)),
+    )
