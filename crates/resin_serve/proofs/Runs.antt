@@ -1,5 +1,5 @@
 -- Runs go on.
-use Rattle.std.proofs.Common.{◌≡◌, ℕ, ◌+◌, ◌≤◌, true, false, cond, nat_eq, List, [], ◌∷◌, ◌++◌, length, Option, Some, None, refl, sym, ap, ◌∙◌, arith, append_assoc, length-append, inl, inr, subst}
+use Rattle.std.proofs.Common.{◌≡◌, ℕ, ◌+◌, true, false, cond, nat_eq, List, [], ◌∷◌, ◌++◌, length, Option, Some, None, refl, sym, ap, ◌∙◌, arith, append_assoc, length-append, inl, inr, subst}
 use Rattle.std.specs.Prelude.{⊤}
 use Rattle.std.proofs.lemmas.List.{append-nil}
 use Rattle.resin_serve.specs.declared.give.Given.{Given}
@@ -16,7 +16,6 @@ use Rattle.resin_site.specs.declared.outcome.End.TheVariants.{NotYet as Unbuilt}
 use Rattle.resin_site.specs.Laws.{IsLawful, Obeys, ObeysIn}
 use Rattle.resin_site.specs.Serving.{Served, IsReply}
 use Rattle.resin_site.specs.Outcomes.{refusal_text}
-use Rattle.resin_journal.specs.Events.{EventList}
 use Rattle.resin_program.specs.Runs.{Reached}
 use Rattle.resin_site.specs.Replies as site
 use Rattle.resin_serve.specs.declared.logging.Logging.{Logging}

@@ -1,5 +1,5 @@
 -- Events, texts and sets that a journal file can tell, one item after another.
-use Rattle.std.proofs.Common.{◌≡◌, ℕ, zero, suc, ◌+◌, ◌-◌, ◌<◌, List, [], ◌∷◌, ◌++◌, length, take, replicate, get_or, sym, arith, subst}
+use Rattle.std.proofs.Common.{◌≡◌, ℕ, zero, suc, ◌-◌, ◌<◌, List, [], ◌∷◌, ◌++◌, length, replicate, get_or, sym, arith, subst}
 use Rattle.resin_label.specs.Sets.{NumberSet}
 use Rattle.resin_lstr.specs.declared.text.Run.{Run}
 use Rattle.resin_lstr.specs.Runs.{spell}

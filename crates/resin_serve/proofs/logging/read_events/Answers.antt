@@ -1,4 +1,4 @@
-use Rattle.std.proofs.Common.{◌≡◌, ◌<◌, ◌+◌, take, length, get_or, sym, subst, arith}
+use Rattle.std.proofs.Common.{◌<◌, ◌+◌, take, length, get_or, sym, subst, arith}
 use Rattle.std.proofs.lemmas.List.{take_more, take_all}
 use Rattle.resin_journal.specs.Access.{TellsNames}
 use Rattle.resin_journal_file.specs.Limits.{Each, CanBeTold}

@@ -1,6 +1,6 @@
-use Rattle.std.proofs.Common.{◌≡◌, ◌<◌, ◌+◌, take, length, get_or, subst, arith}
+use Rattle.std.proofs.Common.{◌<◌, ◌+◌, take, length, get_or, subst, arith}
 use Rattle.std.proofs.lemmas.List.{take_more, take_all}
-use Rattle.resin_label.specs.Sets.{NumberSet, numbers}
+use Rattle.resin_label.specs.Sets.{numbers}
 use Rattle.resin_lstr.specs.declared.text.Run.{Run}
 use Rattle.resin_journal_file.specs.Limits.{Each, IsObject}
 use Rattle.resin_serve.proofs.Telling.{each_more, each_spelled}
