@@ -12,11 +12,11 @@ use Rattle.resin_plan.specs.declared.answer.SqlAnswer.{SqlAnswer}
 use Rattle.resin_plan.specs.declared.answer.SqlResult.TheVariants.{Rows}
 use Rattle.resin_plan.specs.TableCalls.{Keeping, MakeTable, AddRow}
 use Rattle.resin_plan.specs.Plans.{Plan, Ask, refuse, Leads, Ends}
-use Rattle.resin_plan.specs.Columns.{names_of, is_repeated, first_named, paired}
-use Rattle.resin_plan.specs.Conditions.{where_holds}
-use Rattle.resin_plan.specs.Rows.{changed, blank, inserted, cells_of, row_at, ordered, limited, answered_row}
+use Rattle.resin_rows.specs.Columns.{names_of, is_repeated, first_named, paired}
+use Rattle.resin_rows.specs.Conditions.{where_holds}
+use Rattle.resin_rows.specs.Rows.{changed, blank, inserted, cells_of, row_at, ordered, limited, answered_row}
 use Rattle.resin_plan.specs.Statements.{create, created, insert_rows, added, selection}
-use Rattle.resin_plan.proofs.Lists.{front}
+use Rattle.resin_rows.proofs.Lists.{front}
 use Rattle.resin_plan.proofs.Runs.{refuses}
 
 -- ---- CREATE

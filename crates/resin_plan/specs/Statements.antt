@@ -20,10 +20,10 @@ use Rattle.resin_plan.specs.declared.answer.SqlAnswer.{SqlAnswer}
 use Rattle.resin_plan.specs.declared.answer.SqlResult.TheVariants.{Count, Rows}
 use Rattle.resin_plan.specs.TableCalls.{MakeTable, AskColumns, AskRows, AddRow, SetRow, TakeRow}
 use Rattle.resin_plan.specs.Plans.{Plan, Ask, give, refuse, unless}
-use Rattle.resin_plan.specs.Columns.{names_of, is_repeated, first_named, paired, shape}
-use Rattle.resin_plan.specs.Refusals.{earlier, name_cause, names_cause, once_cause, values_cause, rows_cause}
-use Rattle.resin_plan.specs.Conditions.{where_holds, where_cause}
-use Rattle.resin_plan.specs.Rows.{changed, inserted, cells_of, ordered, limited, answered_row}
+use Rattle.resin_rows.specs.Columns.{names_of, is_repeated, first_named, paired, shape}
+use Rattle.resin_rows.specs.Refusals.{earlier, name_cause, names_cause, once_cause, values_cause, rows_cause}
+use Rattle.resin_rows.specs.Conditions.{where_holds, where_cause}
+use Rattle.resin_rows.specs.Rows.{changed, inserted, cells_of, ordered, limited, answered_row}
 
 -- so many rows were made, changed or taken out; `scanned`: how many rows the keeper gave
 abbrev pub counted : ℕ → ℕ → Plan

@@ -6,15 +6,13 @@ ghost use Rattle.resin_plan.specs.Statements as plan;
 ghost use Rattle.resin_plan.specs.TableCalls.{keeping};
 
 use crate::answer::SqlAnswer;
-use crate::conditions::{where_cause, where_holds};
 use crate::creates::counted;
 use crate::keeper::{delete_row, table_rows, update_row};
-use crate::names::changed_names;
-use crate::refusals::{earlier, once_cause, values_cause};
 use crate::table::{opened, pass};
-use crate::values::split;
-use crate::writes::changed;
 use resin_base::{Bytes, Calls, Column, Row, Rows, StoredCell, Tables};
+use resin_rows::{
+    changed, changed_names, earlier, once_cause, split, values_cause, where_cause, where_holds,
+};
 use resin_sql::{Condition, Delete, SqlRefusal, SqlStop, Update};
 use std::alloc::{AllocError, Global};
 

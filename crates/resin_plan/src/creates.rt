@@ -6,10 +6,9 @@ ghost use Rattle.resin_plan.specs.Statements as plan;
 ghost use Rattle.resin_plan.specs.TableCalls.{keeping};
 
 use crate::answer::{SqlAnswer, SqlResult};
-use crate::columns::paired;
 use crate::keeper::create_table;
-use crate::names::{is_repeated, names_of};
 use resin_base::{Calls, Tables};
+use resin_rows::{is_repeated, names_of, paired};
 use resin_sql::{Create, SqlRefusal, SqlStop};
 use std::alloc::Global;
 

@@ -2,20 +2,17 @@
 
 ghost use Rattle.std.specs.Prelude.{◌≡◌};
 ghost use Rattle.resin_plan.specs.Plans.{Ends};
-ghost use Rattle.resin_plan.specs.Rows.{inserted};
+ghost use Rattle.resin_rows.specs.Rows.{inserted};
 ghost use Rattle.resin_plan.specs.Statements as plan;
 ghost use Rattle.resin_plan.specs.TableCalls.{keeping};
 
 use crate::answer::SqlAnswer;
 use crate::creates::counted;
 use crate::keeper::insert_row;
-use crate::names::names_of;
-use crate::refusals::{earlier, once_cause, rows_cause};
 use crate::table::{opened, pass};
-use crate::values::split;
-use crate::writes::{blank, changed};
 use resin_base::{Bytes, Calls, Column, StoredCell, Tables};
 use resin_items::Items;
+use resin_rows::{blank, changed, earlier, names_of, once_cause, rows_cause, split};
 use resin_sql::{Insert, Literal, SqlRefusal, SqlStop};
 use std::alloc::Global;
 

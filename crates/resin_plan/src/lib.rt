@@ -6,9 +6,7 @@
 //!
 //! - CREATE makes one call, `create`; INSERT `columns` and then `insert` for each row; SELECT `columns` and `rows`; UPDATE and DELETE
 //!   `columns`, `rows` and then `update` or `delete` for each chosen row, in rising number.
-//! - A test with NULL is false, and so is one of a cell that is of another kind than its column. Texts are ordered by their bytes. ORDER BY puts
-//!   NULL first, with DESC last, and such a cell with it; ties stand by the numbers of the rows, as does everything without ORDER BY.
-//!   LIMIT comes last.
+//! - What a statement says of the rows that were read (conditions, order, LIMIT, refusals) is `resin_rows`.
 //! - A refused statement makes no call but its `create` or `columns`; only where a table takes no more rows, the rows before stay. CREATE with a
 //!   column twice makes none.
 //!
@@ -16,21 +14,13 @@
 #![tactic(auto)]
 
 mod answer;
-mod cells;
 mod changes;
-mod columns;
-mod conditions;
 mod creates;
 mod inserts;
 mod keeper;
-mod names;
-mod order;
-mod refusals;
 mod selects;
 mod statements;
 mod table;
-mod values;
-mod writes;
 
 pub use answer::{SqlAnswer, SqlResult};
 pub use statements::exec;

@@ -2,20 +2,19 @@
 
 ghost use Rattle.std.specs.Prelude.{◌≡◌, map, IfOk};
 ghost use Rattle.resin_plan.specs.Plans.{Ends};
-ghost use Rattle.resin_plan.specs.Rows.{answered_at, answered_row, cells_of, row_at};
+ghost use Rattle.resin_rows.specs.Rows.{answered_at, answered_row, cells_of, row_at};
 ghost use Rattle.resin_plan.specs.Statements as plan;
 ghost use Rattle.resin_plan.specs.TableCalls.{keeping};
 
 use crate::answer::{SqlAnswer, SqlResult};
-use crate::cells::{copied_or_null, fits_or_null, shadow_at, value_at};
-use crate::columns::{Place, found};
-use crate::conditions::where_cause;
 use crate::keeper::table_rows;
-use crate::names::{first_named, names_of};
-use crate::order::{cells_at, chosen_places, limit_places, order_places};
-use crate::refusals::{earlier, name_cause, names_cause};
 use crate::table::{opened, pass};
 use resin_base::{Bytes, Calls, Cell, Column, Row, Stored, StoredCell, StoredRows, Tables};
+use resin_rows::{
+    Place, cells_at, chosen_places, copied_or_null, earlier, first_named, fits_or_null, found,
+    limit_places, name_cause, names_cause, names_of, order_places, shadow_at, value_at,
+    where_cause,
+};
 use resin_sql::{Order, Select, SqlRefusal, SqlStop};
 use std::alloc::{AllocError, Global};
 

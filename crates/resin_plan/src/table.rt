@@ -6,9 +6,9 @@ ghost use Rattle.resin_plan.specs.Plans.{Plan, GoesOn, passed};
 ghost use Rattle.resin_plan.specs.Statements.{on_table};
 ghost use Rattle.resin_plan.specs.TableCalls.{keeping};
 
-use crate::columns::shape;
 use crate::keeper::table_columns;
 use resin_base::{Calls, Columns, Tables};
+use resin_rows::shape;
 use resin_sql::{SqlRefusal, SqlStop};
 use std::alloc::Global;
 

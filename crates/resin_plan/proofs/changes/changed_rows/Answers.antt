@@ -1,10 +1,10 @@
 use Rattle.std.proofs.Common.{◌++◌, List, take, drop, map, sym, ap, ◌∙◌}
 use Rattle.std.proofs.lemmas.List.{append-nil}
 use Rattle.resin_base.specs.declared.cell.Row.{Row}
-use Rattle.resin_plan.specs.Conditions.{where_holds}
+use Rattle.resin_rows.specs.Conditions.{where_holds}
 use Rattle.resin_plan.specs.Statements.{chosen, changed_row, changed_rows}
-use Rattle.resin_plan.proofs.Lists.{nothing_left}
-use Rattle.resin_plan.proofs.Loops.{kept_step}
+use Rattle.resin_rows.proofs.Lists.{nothing_left}
+use Rattle.resin_rows.proofs.Loops.{kept_step}
 use Rattle.resin_plan.proofs.changes.changed_rows.Goals as goal
 
 pub loop-row-preserved : goal.loop-row-preserved

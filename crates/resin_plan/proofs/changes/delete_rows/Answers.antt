@@ -2,7 +2,7 @@ use Rattle.std.proofs.Common.{ℕ, ◌+◌, List, drop, get_or, sym, ap, ◌∙�
 use Rattle.resin_plan.specs.Plans.{here}
 use Rattle.resin_plan.specs.Statements.{delete_rows, one_more}
 use Rattle.resin_plan.specs.TableCalls.{TakeRow}
-use Rattle.resin_plan.proofs.Lists.{front_number, nothing_left}
+use Rattle.resin_rows.proofs.Lists.{front_number, nothing_left}
 use Rattle.resin_plan.proofs.Runs.{call_exit, ends_then, leads_on, leads_same, gives}
 use Rattle.resin_plan.proofs.changes.delete_rows.Goals as goal
 

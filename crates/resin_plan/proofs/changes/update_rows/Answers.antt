@@ -3,7 +3,7 @@ use Rattle.resin_base.specs.declared.cell.Row.{Row}
 use Rattle.resin_plan.specs.Plans.{here}
 use Rattle.resin_plan.specs.Statements.{update_rows, one_more}
 use Rattle.resin_plan.specs.TableCalls.{SetRow}
-use Rattle.resin_plan.proofs.Lists.{front, nothing_left}
+use Rattle.resin_rows.proofs.Lists.{front, nothing_left}
 use Rattle.resin_plan.proofs.Runs.{call_exit, ends_then, leads_on, leads_same, gives}
 use Rattle.resin_plan.proofs.changes.update_rows.Goals as goal
 

@@ -1,6 +1,6 @@
 use Rattle.std.proofs.Common.{sym, ap, ◌∙◌}
 use Rattle.resin_sql.specs.declared.fault.SqlRefusal.TheVariants.{TableExists}
-use Rattle.resin_plan.specs.Columns.{names_of, is_repeated, paired}
+use Rattle.resin_rows.specs.Columns.{names_of, is_repeated, paired}
 use Rattle.resin_plan.specs.Plans.{here}
 use Rattle.resin_plan.specs.Statements.{created}
 use Rattle.resin_plan.proofs.Runs.{wanting_exit, ends_same, make_exit, make_on, gives, refuses}

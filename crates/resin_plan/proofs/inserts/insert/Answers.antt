@@ -1,5 +1,5 @@
 use Rattle.std.proofs.Common.{sym, ap, ◌∙◌}
-use Rattle.resin_plan.specs.Columns.{names_of}
+use Rattle.resin_rows.specs.Columns.{names_of}
 use Rattle.resin_plan.specs.Plans.{here}
 use Rattle.resin_plan.specs.Statements.{insert, insert_into, named}
 use Rattle.resin_plan.proofs.Runs.{opened_exit, opened_on, renamed, wanting_exit}

@@ -1,7 +1,7 @@
 use Rattle.std.proofs.Common.{sym, ap, ◌∙◌}
 use Rattle.resin_plan.specs.Plans.{passed}
-use Rattle.resin_plan.specs.Refusals.{earlier, rows_cause}
-use Rattle.resin_plan.specs.Rows.{inserted}
+use Rattle.resin_rows.specs.Refusals.{earlier, rows_cause}
+use Rattle.resin_rows.specs.Rows.{inserted}
 use Rattle.resin_plan.specs.Statements.{insert_into, insert_rows}
 use Rattle.resin_plan.proofs.Runs.{pass_exit, pass_on, ends_same}
 use Rattle.resin_plan.proofs.inserts.insert_into.Goals as goal

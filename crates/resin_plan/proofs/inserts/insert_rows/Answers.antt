@@ -1,10 +1,10 @@
 use Rattle.std.proofs.Common.{take, drop, sym, ap, ◌∙◌, arith}
 use Rattle.resin_sql.specs.declared.fault.SqlRefusal.TheVariants.{Full}
 use Rattle.resin_plan.specs.Plans.{here}
-use Rattle.resin_plan.specs.Rows.{inserted}
+use Rattle.resin_rows.specs.Rows.{inserted}
 use Rattle.resin_plan.specs.Statements.{insert_rows}
 use Rattle.resin_plan.specs.TableCalls.{AddRow}
-use Rattle.resin_plan.proofs.Lists.{nothing_left}
+use Rattle.resin_rows.proofs.Lists.{nothing_left}
 use Rattle.resin_plan.proofs.Runs.{wanting_exit, call_exit, ends_then, leads_on, leads_same, gives, refuses}
 use Rattle.resin_plan.proofs.Turns.{insert_turn, added_none, added_some}
 use Rattle.resin_plan.proofs.inserts.insert_rows.Goals as goal

@@ -1,6 +1,6 @@
 use Rattle.std.proofs.Common.{◌≤◌, drop}
 use Rattle.resin_plan.specs.Plans.{Leads}
-use Rattle.resin_plan.specs.Rows.{inserted}
+use Rattle.resin_rows.specs.Rows.{inserted}
 use Rattle.resin_plan.specs.Statements as plan
 use Rattle.resin_plan.specs.TableCalls.{keeping}
 use Rattle.resin_plan.proofs.inserts.insert_rows.Given as goal

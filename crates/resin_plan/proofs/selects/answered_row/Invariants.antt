@@ -1,5 +1,5 @@
 use Rattle.std.proofs.Common.{◌≡◌, ◌++◌, drop}
-use Rattle.resin_plan.specs.Rows.{answered_row}
+use Rattle.resin_rows.specs.Rows.{answered_row}
 use Rattle.resin_plan.proofs.selects.answered_row.Given as goal
 
 abbrev pub invariant-loop-name : goal.invariant-loop-name

@@ -1,5 +1,5 @@
 use Rattle.std.proofs.Common.{◌≡◌, ◌++◌, drop, map}
-use Rattle.resin_plan.specs.Rows.{answered_row, cells_of, row_at}
+use Rattle.resin_rows.specs.Rows.{answered_row, cells_of, row_at}
 use Rattle.resin_plan.proofs.selects.answered_rows.Given as goal
 
 abbrev pub invariant-loop-place : goal.invariant-loop-place

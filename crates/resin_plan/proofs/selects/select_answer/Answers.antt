@@ -1,5 +1,5 @@
 use Rattle.std.proofs.Common.{List, ℕ, map, ap, ◌∙◌}
-use Rattle.resin_plan.specs.Rows.{answered_row, cells_of, row_at}
+use Rattle.resin_rows.specs.Rows.{answered_row, cells_of, row_at}
 use Rattle.resin_plan.proofs.Turns.{select_made}
 use Rattle.resin_plan.proofs.selects.select_answer.Goals as goal
 

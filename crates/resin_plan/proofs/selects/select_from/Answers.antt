@@ -1,6 +1,6 @@
 use Rattle.std.proofs.Common.{ap, ◌∙◌}
 use Rattle.resin_plan.specs.Plans.{here, give, passed}
-use Rattle.resin_plan.specs.Refusals.{earlier}
+use Rattle.resin_rows.specs.Refusals.{earlier}
 use Rattle.resin_plan.specs.Statements.{select_from, selection}
 use Rattle.resin_plan.proofs.Runs.{pass_exit, pass_on, rows_exit, rows_on, wanting_exit, gives}
 use Rattle.resin_plan.proofs.selects.select_from.Goals as goal

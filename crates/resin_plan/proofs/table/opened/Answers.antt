@@ -1,6 +1,6 @@
 use Rattle.std.proofs.Common.{sym, ap, ◌∙◌}
 use Rattle.resin_sql.specs.declared.fault.SqlRefusal.TheVariants.{NoTable}
-use Rattle.resin_plan.specs.Columns.{shape}
+use Rattle.resin_rows.specs.Columns.{shape}
 use Rattle.resin_plan.specs.Plans.{here, wanting}
 use Rattle.resin_plan.specs.Statements.{with_columns, with_shape}
 use Rattle.resin_plan.specs.TableCalls.{AskColumns}
