@@ -1,0 +1,5 @@
+use Rattle.resin_guard.proofs.Refills.{keeps_items}
+use Rattle.resin_guard.proofs.laws.shape_laws.Goals as goal
+
+pub returns : goal.returns
+returns c = keeps_items
