@@ -465,13 +465,16 @@ piece_found ps c n bs v mid s = piece_by (c == 60) ps c n bs v mid refl s
 
 -- data before a page that begins with markup, or is empty
 module _ (ps b v : Places) (c n : ℕ) (bs w : List ℕ) (mid : List Placed) (h : Every is_data (c ∷ w)) (e : b ≡ ps ++ data_places n (c ∷ w)) (z : EndsBefore (λ t. is_data t.byte) mid) (t : Took n (length (c ∷ w)) (c ∷ bs) mid (λ r. c ∷ (w ++ r))) where
+  same : t.behind + 0 ≡ n + length (c ∷ w)
+  same = let a = t.at in omega arith
+
   behind_data : (d : List ℕ) (is : Items) → Every is_data d → AreItems is → d ++ write_items is ≡ t.others → v ≡ b ++ places_at t.behind (record { data_first = d; items = is }) → PageFound ps n (c ∷ bs) v
   behind_data [] is hd hi x y = (
     record { data_first = c ∷ w; items = is },
     (h, hi),
     ap (λ xs. c ∷ (w ++ xs)) x ∙ sym t.text,
     y ∙ ap (λ xs. xs ++ items_places (t.behind + 0) is) e ∙ append_assoc ps (data_places n (c ∷ w)) (items_places (t.behind + 0) is)
-    ∙ ap (λ m. ps ++ (data_places n (c ∷ w) ++ items_places m is)) (let a = t.at in omega arith),
+    ∙ ap (λ m. ps ++ (data_places n (c ∷ w) ++ items_places m is)) same,
   )
   behind_data (q ∷ d) is hd hi x y =
       let l : mid ≡ placed t.behind (q ∷ (d ++ write_items is)) = t.left ∙ ap (placed t.behind) (sym x) in

@@ -9,3 +9,7 @@ pub mod Runs
 pub mod Found
 pub mod Written
 pub mod Refills
+pub mod Follows
+pub mod FollowWords
+pub mod FollowConditions
+pub mod FollowStatements

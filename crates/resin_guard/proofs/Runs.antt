@@ -4,7 +4,7 @@ use Rattle.resin_form.specs.Form.{EndsBefore, Many, done, more}
 use Rattle.resin_sql_words.specs.declared.cursor.Placed.{Placed}
 use Rattle.resin_sql_words.specs.Places.{placed}
 
-module _ {A : Type 0} {test : A → Placed → Bool} {step : A → Placed → List Placed → A → List Placed → Type 0} where
+module _ {A : Type 0} (test : A → Placed → Bool) (step : A → Placed → List Placed → A → List Placed → Type 0) where
   abbrev pub Inverted : A → List Placed → A → List Placed → Type 0
   Inverted a [] v rest = (v ≡ a) × (rest ≡ [])
   Inverted a (t ∷ ts) v rest = ((b : A) × (mid : List Placed) × (test a t ≡ true) × step a t ts b mid × Many test step b mid v rest) ⊎ ((test a t ≡ false) × (v ≡ a) × (rest ≡ t ∷ ts))
@@ -13,8 +13,9 @@ module _ {A : Type 0} {test : A → Placed → Bool} {step : A → Placed → Li
   at_end a [] h = (refl, refl)
   at_end a (t ∷ us) h = inr (h, refl, refl)
 
-  pub inverted : (a : A) (us : List Placed) (v : A) (rest : List Placed) → Many test step a us v rest → Inverted a us v rest
-  inverted a us v rest (done h) = at_end a us h
+module _ {A : Type 0} {test : A → Placed → Bool} {step : A → Placed → List Placed → A → List Placed → Type 0} where
+  pub inverted : (a : A) (us : List Placed) (v : A) (rest : List Placed) → Many test step a us v rest → Inverted test step a us v rest
+  inverted a us v rest (done h) = at_end test step a us h
   inverted a us v rest (more {b = b} {mid = mid} passes first others) = inl (b, mid, passes, first, others)
 
   pub from_here : {a b v : A} {us ts rest : List Placed} → a ≡ b → us ≡ ts → Many test step a us v rest → Many test step b ts v rest

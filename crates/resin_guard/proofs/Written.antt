@@ -1,7 +1,7 @@
 -- What lawful items are written as is a page.
 use Rattle.std.proofs.Common.{◌≡◌, ℕ, zero, suc, ◌+◌, ◌<◌, Bool, true, false, List, [], ◌∷◌, ◌++◌, ◌⊎◌, inl, inr, length, map, refl, sym, ap, subst, ◌∙◌, arith, append_assoc, append-nil}
 use Rattle.std.specs.Prelude.{◌==◌, ◌&&◌, ◌||◌, not, nat_lt, codes}
-use Rattle.std.proofs.lemmas.Bool.{eqb-true, eq-eqb}
+use Rattle.std.proofs.lemmas.Bool.{eqb-true, eq-eqb, le-ltb}
 use Rattle.resin_form.specs.Form.{EndsBefore, Many, done, more, give}
 use Rattle.resin_scan.specs.Bytes.{lower}
 use Rattle.resin_scan.specs.Lists.{Every, NotBefore}
@@ -77,12 +77,12 @@ byte_spelt b n m r e = at_offset (f.byte b) (placed n (b ∷ r)) tt r (suc n) m 
 before_spelt : (b n to m : ℕ) (w r : List ℕ) → Every (λ c. not (c == b)) w → NotBefore (λ c. not (c == b)) r → m ≡ n + length w → Spells (f.before b to) (placed n (w ++ r)) (reach n to w) (placed m r)
 unfolding f.before
 before_spelt b n to m [] r h z e = stops to n m r (omega arith) (heads (λ c. not (c == b)) m r z)
-before_spelt b n to m (c ∷ w) r h z e = more h.0 (refl, refl) (before_spelt b (suc n) (n + 1) m w r h.1 z (omega arith))
+before_spelt b n to m (c ∷ w) r h z e = more {b = n + 1} {mid = placed (suc n) (w ++ r)} h.0 (refl, refl) (before_spelt b (suc n) (n + 1) m w r h.1 z (omega arith))
 
 blanks_spelt : (n m : ℕ) (w r : List ℕ) → Every is_blank w → NotBefore is_blank r → m ≡ n + length w → Spells f.blanks (placed n (w ++ r)) tt (placed m r)
 unfolding f.blanks
 blanks_spelt n m [] r h z e = stops tt n m r (omega arith) (heads is_blank m r z)
-blanks_spelt n m (c ∷ w) r h z e = more h.0 (refl, refl) (blanks_spelt (suc n) m w r h.1 z (omega arith))
+blanks_spelt n m (c ∷ w) r h z e = more {b = tt} {mid = placed (suc n) (w ++ r)} h.0 (refl, refl) (blanks_spelt (suc n) m w r h.1 z (omega arith))
 
 more_of_name_spelt : (of_attribute : Bool) (w0 : List ℕ) (n m : ℕ) (w r : List ℕ) → Every (is_name_byte of_attribute) w → NotBefore (is_name_byte of_attribute) r → m ≡ n + length w
     → Spells (f.more_of_name of_attribute w0) (placed n (w ++ r)) (w0 ++ map lower w) (placed m r)
@@ -91,7 +91,7 @@ more_of_name_spelt of_attribute w0 n m [] r h z e =
     subst (λ x. Spells (f.more_of_name of_attribute w0) (placed n r) x (placed m r)) (sym (append-nil w0)) (stops w0 n m r (omega arith) (heads (is_name_byte of_attribute) m r z))
 more_of_name_spelt of_attribute w0 n m (c ∷ w) r h z e =
     subst (λ x. Spells (f.more_of_name of_attribute w0) (placed n (c ∷ w ++ r)) x (placed m r)) (append_assoc w0 (lower c ∷ []) (map lower w))
-    (more h.0 (refl, refl) (more_of_name_spelt of_attribute (w0 ++ lower c ∷ []) (suc n) m w r h.1 z (omega arith)))
+    (more {b = w0 ++ lower c ∷ []} {mid = placed (suc n) (w ++ r)} h.0 (refl, refl) (more_of_name_spelt of_attribute (w0 ++ lower c ∷ []) (suc n) m w r h.1 z (omega arith)))
 
 name_spelt : (of_attribute : Bool) (b n m : ℕ) (w r : List ℕ) → Every (is_name_byte of_attribute) w → NotBefore (is_name_byte of_attribute) r → m ≡ n + length w → Spells (f.name of_attribute b) (placed n (w ++ r)) (map lower (b ∷ w)) (placed m r)
 unfolding f.name
@@ -103,34 +103,30 @@ ended_spelt : (b : Bool) (ts : List Placed) → b ≡ true → Spells (f.ended b
 ended_spelt true ts e = (refl, refl)
 ended_spelt false ts e = cc
 
+always : (b : Bool) (m : ℕ) (r : List ℕ) → b ≡ false → EndsBefore (λ (_ : Placed). b) (placed m r)
+always b m [] e = tt
+always b m (c ∷ r) e = e
+
 comment_from_spelt : (k n m : ℕ) (u r : List ℕ) → ends (λ n. nat_lt n 3) comment_step (λ n. n == 3) k u ≡ true → m ≡ n + length u → Spells (f.comment_from k) (placed n (u ++ r)) 3 (placed m r)
 unfolding f.comment_from
 comment_from_spelt k n m [] r h e =
     let is : k ≡ 3 = eqb-true k 3 h in
-    subst (λ k. Spells (f.comment_from k) (placed n r) 3 (placed m r)) (sym is) (stops 3 n m r (omega arith) (always m r))
-  where
-    always : (m : ℕ) (r : List ℕ) → EndsBefore (λ (_ : Placed). nat_lt 3 3) (placed m r)
-    always m [] = tt
-    always m (c ∷ r) = refl
-comment_from_spelt k n m (c ∷ u) r h e = more (and_left (nat_lt k 3) _ h) (refl, refl) (comment_from_spelt (comment_step k c) (suc n) m u r (and_right (nat_lt k 3) _ h) (omega arith))
+    subst (λ k. Spells (f.comment_from k) (placed n r) 3 (placed m r)) (sym is) (stops 3 n m r (omega arith) (always (nat_lt 3 3) m r refl))
+comment_from_spelt k n m (c ∷ u) r h e = more {b = comment_step k c} {mid = placed (suc n) (u ++ r)} (and_left (nat_lt k 3) _ h) (refl, refl) (comment_from_spelt (comment_step k c) (suc n) m u r (and_right (nat_lt k 3) _ h) (omega arith))
 
 comment_spelt : (n m : ℕ) (u r : List ℕ) → ends_comment u ≡ true → m ≡ n + length u → Spells f.comment (placed n (u ++ r)) tt (placed m r)
 unfolding f.comment
 comment_spelt n m u r h e = (3, placed m r, comment_from_spelt 0 n m u r h e, (refl, refl))
 
 lt_irreflexive : (k : ℕ) → nat_lt k k ≡ false
-lt_irreflexive k = grind (arith, nat_tests)
+lt_irreflexive k = le-ltb k k (omega arith)
 
 raw_from_spelt : (w : List ℕ) (k n m : ℕ) (u r : List ℕ) → ends (λ n. nat_lt n (length w + 2)) (raw_step w) (λ n. n == length w + 2) k u ≡ true → m ≡ n + length u → Spells (f.raw_from w k) (placed n (u ++ r)) (length w + 2) (placed m r)
 unfolding f.raw_from
 raw_from_spelt w k n m [] r h e =
     let is : k ≡ length w + 2 = eqb-true k (length w + 2) h in
-    subst (λ k. Spells (f.raw_from w k) (placed n r) (length w + 2) (placed m r)) (sym is) (stops (length w + 2) n m r (omega arith) (always m r))
-  where
-    always : (m : ℕ) (r : List ℕ) → EndsBefore (λ (_ : Placed). nat_lt (length w + 2) (length w + 2)) (placed m r)
-    always m [] = tt
-    always m (c ∷ r) = lt_irreflexive (length w + 2)
-raw_from_spelt w k n m (c ∷ u) r h e = more (and_left (nat_lt k (length w + 2)) _ h) (refl, refl) (raw_from_spelt w (raw_step w k c) (suc n) m u r (and_right (nat_lt k (length w + 2)) _ h) (omega arith))
+    subst (λ k. Spells (f.raw_from w k) (placed n r) (length w + 2) (placed m r)) (sym is) (stops (length w + 2) n m r (omega arith) (always (nat_lt (length w + 2) (length w + 2)) m r (lt_irreflexive (length w + 2))))
+raw_from_spelt w k n m (c ∷ u) r h e = more {b = raw_step w k c} {mid = placed (suc n) (u ++ r)} (and_left (nat_lt k (length w + 2)) _ h) (refl, refl) (raw_from_spelt w (raw_step w k c) (suc n) m u r (and_right (nat_lt k (length w + 2)) _ h) (omega arith))
 
 letters_spelt : (ks : List ℕ) (n m : ℕ) (w r : List ℕ) → spells ks w ≡ true → m ≡ n + length w → Spells (letters ks) (placed n (w ++ r)) tt (placed m r)
 unfolding letters
@@ -175,14 +171,14 @@ value_spelt safe places n m q w r h k e =
     (h, (to, placed z (q ∷ r), before_spelt q (suc (suc n)) (suc n + 1) z w (q ∷ r) k (ap not (eq-eqb q q refl)) refl,
       (tt, placed m r, byte_spelt q z m r (omega arith), subst (λ x. Spells (either safe (f.put places (suc n + 1) to) (give places)) (placed m r) x (placed m r)) is (kept_spelt safe places (suc n + 1) to (placed m r)))))
 
+nothing : (safe : Bool) (places : Places) (n m : ℕ) (r : List ℕ) → NotBefore (λ b. b == 61) r → m ≡ n → Spells (f.valued safe places) (placed n r) places (placed m r)
+unfolding f.valued
+nothing safe places n m [] z e = (refl, refl)
+nothing safe places n m (c ∷ r) z e = inr (z, refl, ap (λ k. placed k (c ∷ r)) e)
+
 valued_spelt : (safe : Bool) (places : Places) (n m : ℕ) (x : Value) (r : List ℕ) → IsValue x → NotBefore (λ b. b == 61) r → m ≡ n + value_length x → Spells (f.valued safe places) (placed n (write_value x r)) (places ++ value_places safe n x) (placed m r)
 unfolding f.valued
-valued_spelt safe places n m none r h z e = subst (λ v. Spells (f.valued safe places) (placed n r) v (placed m r)) (sym (append-nil places)) (nothing n m r z (omega arith))
-  where
-    nothing : (n m : ℕ) (r : List ℕ) → NotBefore (λ b. b == 61) r → m ≡ n → Spells (f.valued safe places) (placed n r) places (placed m r)
-    unfolding f.valued
-    nothing n m [] z e = (refl, refl)
-    nothing n m (c ∷ r) z e = inr (z, refl, ap (λ k. placed k (c ∷ r)) e)
+valued_spelt safe places n m none r h z e = subst (λ v. Spells (f.valued safe places) (placed n r) v (placed m r)) (sym (append-nil places)) (nothing safe places n m r z (omega arith))
 valued_spelt safe places n m (quoted q w) r h z e = inl (refl, value_spelt safe places n m q w r h.0 h.1 e)
 
 or_first : (a b : Bool) → a ≡ true → (a || b) ≡ true
@@ -197,7 +193,7 @@ and_both : (a b : Bool) → a ≡ true → b ≡ true → (a && b) ≡ true
 and_both true b e h = h
 and_both false b e h = cc
 
-blank_by : (safe : Bool) (places : Places) (b : ℕ) (ts : List Placed) (is : Bool) → is ≡ true → Spells (either is (give (places, true)) (f.attribute safe places b >>= λ ps. give (ps, false))) ts (places, true) ts
+blank_by : (safe : Bool) (places : Places) (b : ℕ) (ts : List Placed) (is : Bool) → is ≡ true → Spells {A = Attributes} (either is (give (places, true)) (f.attribute safe places b >>= λ ps. give (ps, false))) ts (places, true) ts
 blank_by safe places b ts true e = (refl, refl)
 blank_by safe places b ts false e = cc
 
@@ -221,7 +217,7 @@ attribute_spelt safe places b n m t v r h k z y e =
     behind_name none = z
     behind_name (quoted q w) = refl
 
-attribute_by : (safe : Bool) (places ps : Places) (b : ℕ) (ts rest : List Placed) (is : Bool) → is ≡ false → Spells (f.attribute safe places b) ts ps rest → Spells (either is (give (places, true)) (f.attribute safe places b >>= λ ps. give (ps, false))) ts (ps, false) rest
+attribute_by : (safe : Bool) (places ps : Places) (b : ℕ) (ts rest : List Placed) (is : Bool) → is ≡ false → Spells (f.attribute safe places b) ts ps rest → Spells {A = Attributes} (either is (give (places, true)) (f.attribute safe places b >>= λ ps. give (ps, false))) ts (ps, false) rest
 attribute_by safe places ps b ts rest true e s = cc
 attribute_by safe places ps b ts rest false e s = (ps, rest, s, (refl, refl))
 
@@ -249,14 +245,14 @@ parts_spelt safe places gap n m (blank c ∷ ps) b r h e =
     let rest = write_parts ps (write_slash b (62 ∷ r)) in
     let one : suc n ≡ n + 1 = omega arith in
     subst (λ k. AttributeMany safe (places, gap) (placed n (c ∷ rest)) (places ++ parts_places safe k ps, final_gap true ps) (placed m (write_slash b (62 ∷ r)))) one
-    (more (or_first (is_blank c) (is_alphabetic c && gap) h.0) (blank_spelt safe places c (placed (suc n) rest) h.0) (parts_spelt safe places true (suc n) m ps b r h.1 (omega arith)))
+    (more {b = (places, true)} {mid = placed (suc n) rest} (or_first (is_blank c) (is_alphabetic c && gap) h.0) (blank_spelt safe places c (placed (suc n) rest) h.0) (parts_spelt safe places true (suc n) m ps b r h.1 (omega arith)))
 parts_spelt safe places gap n m (attribute [] v ∷ ps) b r h e = absurd h.1
 parts_spelt safe places gap n m (attribute (c ∷ t) v ∷ ps) b r h e =
     let rest = write_parts ps (write_slash b (62 ∷ r)) in
     let here = part_places safe n (attribute (c ∷ t) v) in
     let a = n + part_length (attribute (c ∷ t) v) in
     subst (λ x. AttributeMany safe (places, gap) (placed n (c ∷ (t ++ write_value v rest))) (x, final_gap false ps) (placed m (write_slash b (62 ∷ r)))) (append_assoc places here (parts_places safe a ps))
-    (more (or_second (is_blank c) (is_alphabetic c && gap) (and_both (is_alphabetic c) gap h.1.0 h.0))
+    (more {b = (places ++ here, false)} {mid = placed a rest} (or_second (is_blank c) (is_alphabetic c && gap) (and_both (is_alphabetic c) gap h.1.0 h.0))
     (attribute_taken safe places (places ++ here) c (placed (suc n) (t ++ write_value v rest)) (placed a rest) (letter_no_blank c (is_blank c) refl h.1.0)
     (attribute_spelt safe places c n a t v rest h.1.1 h.2 (behind_parts (is_name_byte true) (blank_no_name true) refl refl ps h.3 b r) (behind_parts (λ b. b == 61) blank_no_equals refl refl ps h.3 b r) refl))
     (parts_spelt safe (places ++ here) false a m ps b r h.3 (omega arith)))
@@ -440,11 +436,11 @@ PageMany = Many (λ (_ : Places) (_ : Placed). true) (λ (ps : Places) t. Spells
 
 begins_markup : (is : Items) → NotBefore is_data (write_items is)
 begins_markup end = tt
-begins_markup (item (comment u) d more) = refl
-begins_markup (item (doctype w u) d more) = refl
-begins_markup (item (closing t) d more) = refl
-begins_markup (item (opening t) d more) = refl
-begins_markup (item (raw t u bs) d more) = refl
+begins_markup (item (comment u) d others) = refl
+begins_markup (item (doctype w u) d others) = refl
+begins_markup (item (closing t) d others) = refl
+begins_markup (item (opening t) d others) = refl
+begins_markup (item (raw t u bs) d others) = refl
 
 text_by : (ps v : Places) (c n : ℕ) (ts rest : List Placed) (is : Bool) → not is ≡ true → Spells (f.text ps (record { at = n; byte = c })) ts v rest → Spells (either is (f.item ps) (f.text ps (record { at = n; byte = c }))) ts v rest
 text_by ps v c n ts rest true e s = cc
@@ -469,7 +465,7 @@ data_spelt ps n [] is h g = let same : n ≡ n + 0 = omega arith in subst (λ m.
 data_spelt ps n (c ∷ w) is h g =
     let m = n + length (c ∷ w) in
     subst (λ x. PageMany ps (placed n (c ∷ (w ++ write_items is))) x []) (append_assoc ps (data_places n (c ∷ w)) (items_places m is))
-    (more refl (text_spelt ps c n m w (write_items is) h.0 h.1 (begins_markup is) refl) (g (ps ++ data_places n (c ∷ w)) m))
+    (more {b = ps ++ data_places n (c ∷ w)} {mid = placed m (write_items is)} refl (text_spelt ps c n m w (write_items is) h.0 h.1 (begins_markup is) refl) (g (ps ++ data_places n (c ∷ w)) m))
 
 items_spelt : (is : Items) → AreItems is → (ps : Places) (n : ℕ) → PageMany ps (placed n (write_items is)) (ps ++ items_places n is) []
 items_spelt end h ps n = subst (λ x. PageMany ps [] x []) (sym (append-nil ps)) (done tt)
@@ -480,7 +476,7 @@ items_spelt (item m d others) h ps n =
     let qs = ps ++ markup_places n m in
     subst (λ xs. PageMany ps (placed n xs) (ps ++ items_places n (item m d others)) []) (sym k.1)
     (subst (λ x. PageMany ps (placed n (60 ∷ k.0)) x []) (append_assoc ps (markup_places n m) (data_places a d ++ items_places (a + length d) others))
-    (more refl (item_piece ps qs n (placed (suc n) k.0) (placed a r) k.2) (data_spelt qs a d others h.1 (λ qs m. items_spelt others h.2 qs m))))
+    (more {b = qs} {mid = placed a r} refl (item_piece ps qs n (placed (suc n) k.0) (placed a r) k.2) (data_spelt qs a d others h.1 (λ qs m. items_spelt others h.2 qs m))))
 
 pub page_written : (p : Page) → IsLawful p → IsPage (written p) (safe_places p)
 unfolding f.page

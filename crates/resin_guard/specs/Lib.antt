@@ -4,3 +4,4 @@ pub mod Judged
 pub mod Guards
 pub mod Literals
 pub mod Items
+pub mod Requoted

@@ -16,7 +16,12 @@ returns-in-Some c =
     c.loop-run.from c.run-item.result.end c.loop-run.invariant.begins refl c.in-Some.at c.loop-run.invariant.none c.in-Some.ensures
 
 pub loop-run-preserved : goal.loop-run-preserved
-loop-run-preserved c = ?
+loop-run-preserved c = record {
+  begins = next c.args.runs.now c.args.bad.now c.args.safe.now c.requires.coalesced c.requires.whole c.loop-run.run-index c.run-item.result c.loop-run-test.true c.run-item.is
+      c.loop-run.from c.run-item.result.end c.loop-run.invariant.begins refl;
+  none = run_none c.args.runs.now c.args.bad.now c.args.safe.now c.requires.coalesced c.requires.whole c.loop-run.run-index c.run-item.result c.loop-run-test.true c.run-item.is
+      c.loop-run.from c.run-item.result.end c.loop-run.invariant.begins refl c.loop-run.invariant.none c.in_default.ensures;
+}
 
 pub returns : goal.returns
 returns c =
