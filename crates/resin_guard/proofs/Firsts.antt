@@ -96,14 +96,14 @@ module _ (rs : List Run) (bad : NumberSet) (safe : List Bool) (c : IsCoalesced 0
     same k f t = ap (λ s. meets bad s && not (get_or safe k false)) (set_is k f t)
 
     pub run_none : BelowNone from → IsFirst (λ k. meets bad d.set && not (get_or safe k false)) from to None → BelowNone to
-    run_none below h k t = elim (cases_lt k from) [ | inl l ↦ below k l | inr f ↦ sym (same k f t) ∙ h k f t ]
+    run_none below h k t = elim (cases_lt k from) [ inl l ↦ below k l | inr f ↦ sym (same k f t) ∙ h k f t ]
 
     pub run_some : (at : ℕ) → BelowNone from → IsFirst (λ k. meets bad d.set && not (get_or safe k false)) from to (Some at) → IsFirst (test rs bad safe) 0 (length safe) (Some at)
     run_some at below h = (
       omega arith,
       let l = h.1 in let w = within in omega arith,
       sym (same at h.0 h.1) ∙ h.2,
-      λ k z l. elim (cases_lt k from) [ | inl b ↦ below k b | inr f ↦ sym (same k f (let e = h.1 in omega arith)) ∙ h.3 k f l ],
+      λ k z l. elim (cases_lt k from) [ inl b ↦ below k b | inr f ↦ sym (same k f (let e = h.1 in omega arith)) ∙ h.3 k f l ],
     )
 
   pub none_left : (i from : ℕ) → length rs ≤ i → from ≡ last_end 0 (take i rs) → BelowNone from → IsFirst (test rs bad safe) 0 (length safe) None

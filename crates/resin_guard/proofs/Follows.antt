@@ -111,8 +111,17 @@ module _ {A B : Type 0} {E : A → B} (test check : A → Placed → Bool) (F G 
       let step = subst (λ u. SpellsBehind (F a u) (placed (suc n) r) x mid) here (subst (λ us. SpellsBehind (F a t) us x mid) left g) in
       let k = (each a b e n m c).follow (suc n) (suc m) r y x mid q step in
       let j = many_on x k.value k.alike mid v rest o k.there k.there_too k.others k.others_too k.at k.requoted in
-      record { value = j.value; there = j.there; there_too = j.there_too; others = j.others; others_too = j.others_too; at = j.at;
-        spelt = more {b = k.value} {mid = placed k.there_too k.others_too} (sym (tests a b e n m c) ∙ subst (λ u. test a u ≡ true) here p) k.spelt j.spelt; requoted = j.requoted; alike = j.alike }
+      record {
+        value = j.value;
+        there = j.there;
+        there_too = j.there_too;
+        others = j.others;
+        others_too = j.others_too;
+        at = j.at;
+        spelt = more {b = k.value} {mid = placed k.there_too k.others_too} (sym (tests a b e n m c) ∙ subst (λ u. test a u ≡ true) here p) k.spelt j.spelt;
+        requoted = j.requoted;
+        alike = j.alike;
+      }
   many_on a b e us v rest (more {b = x} {t = t} {ts = ts} {mid = mid} p g o) n m bs cs is (quo.other w u {bs = r} y h z q) =
       let here : t ≡ record { at = n; byte = 39 } = cc in
       apart (subst (λ u. test a u ≡ true) here p) (quoteless a n)

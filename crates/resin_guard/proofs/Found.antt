@@ -152,14 +152,19 @@ doctype_found n bs v rest s =
     let t = q.2 in
     let k = before_found 62 t.behind 0 t.others s.0 s.1 (then_here (f.before 62 0) t s.0 s.1 s.2.3) in
     let u = k.4 in
-    let z = byte_found 62 u.behind u.others v rest (then_here (f.byte 62) u v rest s.3) in
-    (q.0, k.0, q.1, k.1, record {
-      others = z.others;
-      behind = z.behind;
-      text = t.text ∙ ap (λ xs. q.0 ++ xs) (u.text ∙ ap (λ xs. k.0 ++ xs) z.text);
-      left = z.left;
-      at = let a = t.at in let b = u.at in let c = z.at in omega arith;
-    })
+    let z = byte_found 62 u.behind u.others v rest (then_here (f.byte 62) u v rest s.3) in (
+      q.0,
+      k.0,
+      q.1,
+      k.1,
+      record {
+        others = z.others;
+        behind = z.behind;
+        text = t.text ∙ ap (λ xs. q.0 ++ xs) (u.text ∙ ap (λ xs. k.0 ++ xs) z.text);
+        left = z.left;
+        at = let a = t.at in let b = u.at in let c = z.at in omega arith;
+      },
+    )
 
 pub raw_found : (w : List ℕ) (n : ℕ) (bs : List ℕ) (v : Unit {0}) (rest : List Placed) → Spells (f.raw w) (placed n bs) v rest
     → (u : List ℕ) × (d : List ℕ) × (ends_raw w u ≡ true) × Every is_blank d × Took n (length u + length d + 1) bs rest (λ r. u ++ (d ++ 62 ∷ r))
@@ -171,14 +176,19 @@ raw_found w n bs v rest s =
     let here : Spells f.blanks (placed t.behind t.others) s.3.0 s.3.1 = subst (λ us. Spells f.blanks us s.3.0 s.3.1) (e.1 ∙ t.left) s.3.2.3 in
     let k = blanks_found t.behind t.others s.3.0 s.3.1 here in
     let u = k.2 in
-    let z = byte_found 62 u.behind u.others v rest (then_here (f.byte 62) u v rest s.3.3) in
-    (q.0, k.0, q.1, k.1, record {
-      others = z.others;
-      behind = z.behind;
-      text = t.text ∙ ap (λ xs. q.0 ++ xs) (u.text ∙ ap (λ xs. k.0 ++ xs) z.text);
-      left = z.left;
-      at = let a = t.at in let b = u.at in let c = z.at in omega arith;
-    })
+    let z = byte_found 62 u.behind u.others v rest (then_here (f.byte 62) u v rest s.3.3) in (
+      q.0,
+      k.0,
+      q.1,
+      k.1,
+      record {
+        others = z.others;
+        behind = z.behind;
+        text = t.text ∙ ap (λ xs. q.0 ++ xs) (u.text ∙ ap (λ xs. k.0 ++ xs) z.text);
+        left = z.left;
+        at = let a = t.at in let b = u.at in let c = z.at in omega arith;
+      },
+    )
 
 -- ---- attributes
 
@@ -208,14 +218,18 @@ value_found safe places n (q ∷ bs) v rest s =
     let z = byte_found q t.behind t.others s.1.3.0 s.1.3.1 (then_here (f.byte q) t s.1.3.0 s.1.3.1 s.1.3.2) in
     let p = kept_found safe places (suc n + 1) s.1.0 s.1.3.1 v rest s.1.3.3 in
     let to : s.1.0 ≡ n + 2 + length k.0 = k.2 ∙ reach_is (suc (suc n)) (suc n + 1) k.0 (omega arith) ∙ omega arith in
-    let from : suc n + 1 ≡ n + 2 = omega arith in
-    (quoted q k.0, (s.0, k.1), p.0 ∙ same_place safe places n q k.0 (suc n + 1) s.1.0 from to, record {
-      others = z.others;
-      behind = z.behind;
-      text = ap (λ xs. 61 ∷ q ∷ xs) (t.text ∙ ap (λ xs. k.0 ++ xs) z.text);
-      left = p.1 ∙ z.left;
-      at = let a = t.at in let b = z.at in omega arith;
-    })
+    let from : suc n + 1 ≡ n + 2 = omega arith in (
+      quoted q k.0,
+      (s.0, k.1),
+      p.0 ∙ same_place safe places n q k.0 (suc n + 1) s.1.0 from to,
+      record {
+        others = z.others;
+        behind = z.behind;
+        text = ap (λ xs. 61 ∷ q ∷ xs) (t.text ∙ ap (λ xs. k.0 ++ xs) z.text);
+        left = p.1 ∙ z.left;
+        at = let a = t.at in let b = z.at in omega arith;
+      },
+    )
 
 -- a value with its `=` at n, or none
 pub valued_found : (safe : Bool) (places : Places) (n : ℕ) (bs : List ℕ) (v : Places) (rest : List Placed) → Spells (f.valued safe places) (placed n bs) v rest
@@ -237,10 +251,14 @@ attribute_found safe places b n bs v rest s =
     let t = k.3 in
     let q = valued_found (safe && not (is_harmful s.0)) places t.behind t.others v rest (then_here (f.valued (safe && not (is_harmful s.0)) places) t v rest s.3) in
     let u = q.3 in
-    let at : t.behind ≡ n + length (b ∷ k.0) = let a = t.at in omega arith in
-    (k.0, q.0, k.1, q.1,
+    let at : t.behind ≡ n + length (b ∷ k.0) = let a = t.at in omega arith in (
+      k.0,
+      q.0,
+      k.1,
+      q.1,
       q.2 ∙ ap (λ w. places ++ value_places (safe && not (is_harmful w)) t.behind q.0) k.2 ∙ ap (λ m. places ++ value_places (safe && not (is_harmful (map lower (b ∷ k.0)))) m q.0) at,
-      record { others = u.others; behind = u.behind; text = ap (λ xs. b ∷ xs) (t.text ∙ ap (λ xs. k.0 ++ xs) u.text); left = u.left; at = let c = u.at in omega arith })
+      record { others = u.others; behind = u.behind; text = ap (λ xs. b ∷ xs) (t.text ∙ ap (λ xs. k.0 ++ xs) u.text); left = u.left; at = let c = u.at in omega arith },
+    )
 
 -- a part behind a blank or not
 abbrev pub PartFits : Bool → Part → Type 0
@@ -270,9 +288,13 @@ part_by safe gap places c n bs b mid true e h s =
 part_by safe gap places c n bs b mid false e h s =
     let k = attribute_found safe places c n bs s.0 s.1 s.2 in
     let t = k.5 in
-    let both = or_right (is_blank c) (is_alphabetic c && gap) e h in
-    (attribute (c ∷ k.0) k.1, (and_right (is_alphabetic c) gap both, (and_left (is_alphabetic c) gap both, k.2), k.3),
-      ap (λ (x : Attributes). x.0) s.3.0 ∙ k.4, ap (λ (x : Attributes). x.1) s.3.0, record { others = t.others; behind = t.behind; text = t.text; left = s.3.1 ∙ t.left; at = t.at })
+    let both = or_right (is_blank c) (is_alphabetic c && gap) e h in (
+      attribute (c ∷ k.0) k.1,
+      (and_right (is_alphabetic c) gap both, (and_left (is_alphabetic c) gap both, k.2), k.3),
+      ap (λ (x : Attributes). x.0) s.3.0 ∙ k.4,
+      ap (λ (x : Attributes). x.1) s.3.0,
+      record { others = t.others; behind = t.behind; text = t.text; left = s.3.1 ∙ t.left; at = t.at },
+    )
 
 part_found : (safe gap : Bool) (places : Places) (c n : ℕ) (bs : List ℕ) (b : Attributes) (mid : List Placed) → is_next gap c ≡ true → Spells (f.blank_or_attribute safe places c) (placed (suc n) bs) b mid → PartFound safe gap places c n bs b mid
 unfolding f.blank_or_attribute
@@ -287,11 +309,13 @@ AttributeMany safe = Many (λ (s : Attributes) t. is_next s.1 t.byte) (λ (s : A
 one_part : (safe : Bool) (s b v : Attributes) (n : ℕ) (c : ℕ) (bs : List ℕ) (mid rest : List Placed) (p : PartFound safe s.1 s.0 c n bs b mid) → PartsFound safe b p.4.behind p.4.others v rest → PartsFound safe s n (c ∷ bs) v rest
 one_part safe s b v n c bs mid rest p q =
     let t = p.4 in
-    let u = q.3 in
-    (p.0 ∷ q.0, are_more s.1 p.0 q.0 p.1 (subst (λ g. AreParts g q.0) p.3 q.1),
+    let u = q.3 in (
+      p.0 ∷ q.0,
+      are_more s.1 p.0 q.0 p.1 (subst (λ g. AreParts g q.0) p.3 q.1),
       q.2 ∙ ap (λ xs. xs ++ parts_places safe t.behind q.0) p.2 ∙ append_assoc s.0 (part_places safe n p.0) (parts_places safe t.behind q.0)
-      ∙ ap (λ m. s.0 ++ (part_places safe n p.0 ++ parts_places safe m q.0)) t.at,
-      record { others = u.others; behind = u.behind; text = t.text ∙ ap (write_part p.0) u.text; left = u.left; at = let a = t.at in let e = u.at in omega arith })
+          ∙ ap (λ m. s.0 ++ (part_places safe n p.0 ++ parts_places safe m q.0)) t.at,
+      record { others = u.others; behind = u.behind; text = t.text ∙ ap (write_part p.0) u.text; left = u.left; at = let a = t.at in let e = u.at in omega arith },
+    )
 
 pub parts_found : (safe : Bool) (s : Attributes) (us : List Placed) (v : Attributes) (rest : List Placed) → AttributeMany safe s us v rest → (n : ℕ) (bs : List ℕ) → us ≡ placed n bs → PartsFound safe s n bs v rest
 parts_found safe s us v rest (done h) n bs e = ([], tt, sym (append-nil s.0), record { others = bs; behind = n; text = refl; left = e; at = omega arith })
@@ -301,7 +325,7 @@ parts_found safe s us v rest (more {b = b} {t = t} {ts = ts} {mid = mid} p g o) 
     let left : ts ≡ placed (suc n) bs = cc in
     let byte : t.byte ≡ c = ap (λ (x : Placed). x.byte) is in
     let k = part_found safe s.1 s.0 c n bs b mid (subst (λ x. is_next s.1 x ≡ true) byte p)
-        (subst (λ x. Spells (f.blank_or_attribute safe s.0 x) (placed (suc n) bs) b mid) byte (subst (λ us. Spells (f.blank_or_attribute safe s.0 t.byte) us b mid) left g)) in
+    (subst (λ x. Spells (f.blank_or_attribute safe s.0 x) (placed (suc n) bs) b mid) byte (subst (λ us. Spells (f.blank_or_attribute safe s.0 t.byte) us b mid) left g)) in
     one_part safe s b v n c bs mid rest k (parts_found safe b mid v rest o k.4.behind k.4.others k.4.left)
 
 -- ---- tags
@@ -320,14 +344,19 @@ tag_end_found safe places n bs v rest s =
     let t = k.3 in
     let q = slash_found t.behind t.others s.3.2.0 s.3.2.1 (then_here f.slash t s.3.2.0 s.3.2.1 s.3.2.2) in
     let u = q.1 in
-    let z = byte_found 62 u.behind u.others s.3.0 s.3.1 (then_here (f.byte 62) u s.3.0 s.3.1 s.3.2.3) in
-    (k.0, q.0, k.1, s.3.3.0 ∙ k.2, record {
-      others = z.others;
-      behind = z.behind;
-      text = t.text ∙ ap (write_parts k.0) (u.text ∙ ap (write_slash q.0) z.text);
-      left = s.3.3.1 ∙ z.left;
-      at = let a = t.at in let b = u.at in let c = z.at in omega arith;
-    })
+    let z = byte_found 62 u.behind u.others s.3.0 s.3.1 (then_here (f.byte 62) u s.3.0 s.3.1 s.3.2.3) in (
+      k.0,
+      q.0,
+      k.1,
+      s.3.3.0 ∙ k.2,
+      record {
+        others = z.others;
+        behind = z.behind;
+        text = t.text ∙ ap (write_parts k.0) (u.text ∙ ap (write_slash q.0) z.text);
+        left = s.3.3.1 ∙ z.left;
+        at = let a = t.at in let b = u.at in let c = z.at in omega arith;
+      },
+    )
 
 -- a name, of which the first byte b stands at n, and what stands behind it, as a tag
 as_tag : (safe of_raw : Bool) (places : Places) (b n : ℕ) (bs : List ℕ) (v : Places) (name : List ℕ) (mid rest : List Placed)
@@ -338,10 +367,13 @@ as_tag safe of_raw places b n bs v name mid rest h r s g =
     let t = k.3 in
     let q = tag_end_found safe places t.behind t.others v rest (then_here (f.tag_end safe places) t v rest g) in
     let u = q.4 in
-    let at : t.behind ≡ n + length (b ∷ k.0) = let a = t.at in omega arith in
-    (record { name = b ∷ k.0; parts = q.0; slash = q.1 }, ((h, k.1), sym (ap is_raw k.2) ∙ r, q.2), k.2,
+    let at : t.behind ≡ n + length (b ∷ k.0) = let a = t.at in omega arith in (
+      record { name = b ∷ k.0; parts = q.0; slash = q.1 },
+      ((h, k.1), sym (ap is_raw k.2) ∙ r, q.2),
+      k.2,
       q.3 ∙ ap (λ m. places ++ parts_places safe m q.0) at,
-      record { others = u.others; behind = u.behind; text = ap (λ xs. b ∷ xs) (t.text ∙ ap (λ xs. k.0 ++ xs) u.text); left = u.left; at = let c = u.at in omega arith })
+      record { others = u.others; behind = u.behind; text = ap (λ xs. b ∷ xs) (t.text ∙ ap (λ xs. k.0 ++ xs) u.text); left = u.left; at = let c = u.at in omega arith },
+    )
 
 -- ---- items
 
@@ -374,10 +406,12 @@ opening_by true places ps b n bs v name mid tail rest h r s g e =
     let k = as_tag false true places b (suc n) bs ps name mid tail h r s g in
     let t = k.4 in
     let q = raw_found name t.behind t.others e.0 e.1 (then_here (f.raw name) t e.0 e.1 e.2) in
-    let u = q.4 in
-    (raw k.0 q.0 q.1, (k.1, subst (λ w. ends_raw w q.0 ≡ true) k.2 q.2, q.3),
+    let u = q.4 in (
+      raw k.0 q.0 q.1,
+      (k.1, subst (λ w. ends_raw w q.0 ≡ true) k.2 q.2, q.3),
       e.3.0 ∙ k.3 ∙ ap (λ xs. places ++ xs) (none_safe (suc n + length k.0.name) k.0.parts),
-      record { others = u.others; behind = u.behind; text = ap (λ xs. 60 ∷ xs) (t.text ∙ ap (write_tag k.0) u.text); left = e.3.1 ∙ u.left; at = let a = t.at in let c = u.at in omega arith })
+      record { others = u.others; behind = u.behind; text = ap (λ xs. 60 ∷ xs) (t.text ∙ ap (write_tag k.0) u.text); left = e.3.1 ∙ u.left; at = let a = t.at in let c = u.at in omega arith },
+    )
   where
     none_of_value : (n : ℕ) (x : Value) → value_places false n x ≡ []
     none_of_value n none = refl
@@ -397,9 +431,12 @@ declared_by true b n bs v rest e h s =
     (comment q.0, q.1, refl, record { others = u.others; behind = u.behind; text = ap (λ x. 60 ∷ 33 ∷ x ∷ bs) (eqb-true b 45 e) ∙ ap (λ xs. 60 ∷ 33 ∷ 45 ∷ xs) (t.text ∙ ap (λ xs. 45 ∷ xs) u.text); left = u.left; at = let a = t.at in let c = u.at in omega arith })
 declared_by false b n bs v rest e h s =
     let q = doctype_found (suc (suc (suc n))) bs v rest s in
-    let t = q.4 in
-    (doctype (b ∷ q.0) q.1, (and_true (lower b == 100) _ (or_right (b == 45) (lower b == 100) e h) q.2, q.3), refl,
-      record { others = t.others; behind = t.behind; text = ap (λ xs. 60 ∷ 33 ∷ b ∷ xs) t.text; left = t.left; at = let a = t.at in omega arith })
+    let t = q.4 in (
+      doctype (b ∷ q.0) q.1,
+      (and_true (lower b == 100) _ (or_right (b == 45) (lower b == 100) e h) q.2, q.3),
+      refl,
+      record { others = t.others; behind = t.behind; text = ap (λ xs. 60 ∷ 33 ∷ b ∷ xs) t.text; left = t.left; at = let a = t.at in omega arith },
+    )
 
 declared_found : (n : ℕ) (bs : List ℕ) (v : Unit {0}) (rest : List Placed) → Spells f.declared (placed (suc (suc n)) bs) v rest → (m : Markup) × IsMarkup m × (markup_places n m ≡ []) × Took n (markup_length m) (60 ∷ 33 ∷ bs) rest (write_markup m)
 unfolding f.declared f.declared_from
@@ -456,8 +493,13 @@ piece_by false ps c n bs v mid e s =
     let k = before_found 60 (suc n) (n + 1) bs s.0 s.1 s.2 in
     let t = k.4 in
     let to : s.0 ≡ n + length (c ∷ k.0) = k.2 ∙ reach_is (suc n) (n + 1) k.0 (omega arith) ∙ omega arith in
-    inr (k.0, (ap not e, k.1), s.3.0 ∙ ap (λ x. ps ++ (n, x) ∷ []) to, subst (EndsBefore (λ t. is_data t.byte)) (sym s.3.1) k.3,
-      record { others = t.others; behind = t.behind; text = ap (λ xs. c ∷ xs) t.text; left = s.3.1 ∙ t.left; at = let a = t.at in omega arith })
+    inr (
+      k.0,
+      (ap not e, k.1),
+      s.3.0 ∙ ap (λ x. ps ++ (n, x) ∷ []) to,
+      subst (EndsBefore (λ t. is_data t.byte)) (sym s.3.1) k.3,
+      record { others = t.others; behind = t.behind; text = ap (λ xs. c ∷ xs) t.text; left = s.3.1 ∙ t.left; at = let a = t.at in omega arith },
+    )
 
 piece_found : (ps : Places) (c n : ℕ) (bs : List ℕ) (v : Places) (mid : List Placed) → Spells (f.piece ps (record { at = n; byte = c })) (placed (suc n) bs) v mid → Piece ps c n bs v mid
 unfolding f.piece
@@ -474,7 +516,7 @@ module _ (ps b v : Places) (c n : ℕ) (bs w : List ℕ) (mid : List Placed) (h 
     (h, hi),
     ap (λ xs. c ∷ (w ++ xs)) x ∙ sym t.text,
     y ∙ ap (λ xs. xs ++ items_places (t.behind + 0) is) e ∙ append_assoc ps (data_places n (c ∷ w)) (items_places (t.behind + 0) is)
-    ∙ ap (λ m. ps ++ (data_places n (c ∷ w) ++ items_places m is)) same,
+        ∙ ap (λ m. ps ++ (data_places n (c ∷ w) ++ items_places m is)) same,
   )
   behind_data (q ∷ d) is hd hi x y =
       let l : mid ≡ placed t.behind (q ∷ (d ++ write_items is)) = t.left ∙ ap (placed t.behind) (sym x) in
@@ -488,10 +530,13 @@ one_piece ps b v c n bs mid (inl p) q =
     let k = q t.behind t.others t.left in
     let d = k.0.data_first in
     let is = k.0.items in
-    let same : n + 0 ≡ n = omega arith in
-    (record { data_first = []; items = item p.0 d is }, (tt, (p.1, k.1.0, k.1.1)), ap (write_markup p.0) k.2 ∙ sym t.text,
+    let same : n + 0 ≡ n = omega arith in (
+      record { data_first = []; items = item p.0 d is },
+      (tt, (p.1, k.1.0, k.1.1)),
+      ap (write_markup p.0) k.2 ∙ sym t.text,
       k.3 ∙ ap (λ xs. xs ++ places_at t.behind k.0) p.2 ∙ append_assoc ps (markup_places n p.0) (places_at t.behind k.0)
-      ∙ ap (λ m. ps ++ (markup_places n p.0 ++ places_at m k.0)) t.at ∙ ap (λ m. ps ++ items_places m (item p.0 d is)) (sym same))
+          ∙ ap (λ m. ps ++ (markup_places n p.0 ++ places_at m k.0)) t.at ∙ ap (λ m. ps ++ items_places m (item p.0 d is)) (sym same),
+    )
 one_piece ps b v c n bs mid (inr p) q =
     let t = p.4 in
     let k = q t.behind t.others t.left in

@@ -33,7 +33,7 @@ blank_cases P a c d e g b h = elim (or_cases (b == 32 || b == 9 || b == 13 || b 
     | inr k ↦ subst P (sym (eqb-true b 10 k)) e
     | inl k ↦ elim (or_cases (b == 32 || b == 9) (b == 13) k) [
       | inr k ↦ subst P (sym (eqb-true b 13 k)) d
-      | inl k ↦ elim (or_cases (b == 32) (b == 9) k) [ | inl k ↦ subst P (sym (eqb-true b 32 k)) a | inr k ↦ subst P (sym (eqb-true b 9 k)) c ]
+      | inl k ↦ elim (or_cases (b == 32) (b == 9) k) [ inl k ↦ subst P (sym (eqb-true b 32 k)) a | inr k ↦ subst P (sym (eqb-true b 9 k)) c ]
     ]
   ]
 ]
@@ -146,9 +146,12 @@ raw_spelt : (w : List ℕ) (n m : ℕ) (u d r : List ℕ) → ends_raw w u ≡ t
 unfolding f.raw
 raw_spelt w n m u d r h k e =
     let a = n + length u in
-    let z = n + length u + length d in
-    (length w + 2, placed a (d ++ 62 ∷ r), raw_from_spelt w 0 n a u (d ++ 62 ∷ r) h refl,
-      (tt, placed z (62 ∷ r), (tt, placed a (d ++ 62 ∷ r), ended_spelt (length w + 2 == length w + 2) (placed a (d ++ 62 ∷ r)) (eq-eqb (length w + 2) (length w + 2) refl), blanks_spelt a z d (62 ∷ r) k refl refl), byte_spelt 62 z m r (omega arith)))
+    let z = n + length u + length d in (
+      length w + 2,
+      placed a (d ++ 62 ∷ r),
+      raw_from_spelt w 0 n a u (d ++ 62 ∷ r) h refl,
+      (tt, placed z (62 ∷ r), (tt, placed a (d ++ 62 ∷ r), ended_spelt (length w + 2 == length w + 2) (placed a (d ++ 62 ∷ r)) (eq-eqb (length w + 2) (length w + 2) refl), blanks_spelt a z d (62 ∷ r) k refl refl), byte_spelt 62 z m r (omega arith)),
+    )
 
 -- ---- attributes
 
@@ -167,9 +170,15 @@ unfolding f.value f.quoted
 value_spelt safe places n m q w r h k e =
     let to = reach (suc (suc n)) (suc n + 1) w in
     let z = suc (suc n) + length w in
-    let is : kept safe places (suc n + 1) to ≡ places ++ value_places safe n (quoted q w) = kept_is safe places n q w (suc n + 1) to (omega arith) (reach_is (suc (suc n)) (suc n + 1) w (omega arith) ∙ omega arith) in
-    (h, (to, placed z (q ∷ r), before_spelt q (suc (suc n)) (suc n + 1) z w (q ∷ r) k (ap not (eq-eqb q q refl)) refl,
-      (tt, placed m r, byte_spelt q z m r (omega arith), subst (λ x. Spells (either safe (f.put places (suc n + 1) to) (give places)) (placed m r) x (placed m r)) is (kept_spelt safe places (suc n + 1) to (placed m r)))))
+    let is : kept safe places (suc n + 1) to ≡ places ++ value_places safe n (quoted q w) = kept_is safe places n q w (suc n + 1) to (omega arith) (reach_is (suc (suc n)) (suc n + 1) w (omega arith) ∙ omega arith) in (
+      h,
+      (
+        to,
+        placed z (q ∷ r),
+        before_spelt q (suc (suc n)) (suc n + 1) z w (q ∷ r) k (ap not (eq-eqb q q refl)) refl,
+        (tt, placed m r, byte_spelt q z m r (omega arith), subst (λ x. Spells (either safe (f.put places (suc n + 1) to) (give places)) (placed m r) x (placed m r)) is (kept_spelt safe places (suc n + 1) to (placed m r))),
+      ),
+    )
 
 nothing : (safe : Bool) (places : Places) (n m : ℕ) (r : List ℕ) → NotBefore (λ b. b == 61) r → m ≡ n → Spells (f.valued safe places) (placed n r) places (placed m r)
 unfolding f.valued
@@ -209,9 +218,12 @@ attribute_spelt : (safe : Bool) (places : Places) (b n m : ℕ) (t : List ℕ) (
     → Spells (f.attribute safe places b) (placed (suc n) (t ++ write_value v r)) (places ++ part_places safe n (attribute (b ∷ t) v)) (placed m r)
 unfolding f.attribute
 attribute_spelt safe places b n m t v r h k z y e =
-    let a = n + length (b ∷ t) in
-    (map lower (b ∷ t), placed a (write_value v r), name_spelt true b (suc n) a t (write_value v r) h (behind_name v) (omega arith),
-      valued_spelt (safe && not (is_harmful (map lower (b ∷ t)))) places a m v r k y (omega arith))
+    let a = n + length (b ∷ t) in (
+      map lower (b ∷ t),
+      placed a (write_value v r),
+      name_spelt true b (suc n) a t (write_value v r) h (behind_name v) (omega arith),
+      valued_spelt (safe && not (is_harmful (map lower (b ∷ t)))) places a m v r k y (omega arith),
+    )
   where
     behind_name : (v : Value) → NotBefore (is_name_byte true) (write_value v r)
     behind_name none = z
@@ -269,9 +281,12 @@ tag_end_spelt : (safe : Bool) (places : Places) (n m : ℕ) (ps : List Part) (b 
 unfolding f.tag_end f.attributes
 tag_end_spelt safe places n m ps b r h e =
     let a = n + parts_length ps in
-    let z = n + parts_length ps + slash_length b in
-    ((places ++ parts_places safe n ps, final_gap false ps), placed a (write_slash b (62 ∷ r)), parts_spelt safe places false n a ps b r h refl,
-      (tt, placed m r, (tt, placed z (62 ∷ r), slash_spelt a z b r refl, byte_spelt 62 z m r (omega arith)), (refl, refl)))
+    let z = n + parts_length ps + slash_length b in (
+      (places ++ parts_places safe n ps, final_gap false ps),
+      placed a (write_slash b (62 ∷ r)),
+      parts_spelt safe places false n a ps b r h refl,
+      (tt, placed m r, (tt, placed z (62 ∷ r), slash_spelt a z b r refl, byte_spelt 62 z m r (omega arith)), (refl, refl)),
+    )
 
 -- a tag from its name on, of which the first byte is given
 name_of : (of_raw : Bool) (t : Tag) → IsTag of_raw t → (b : ℕ) × (w : List ℕ) × (t.name ≡ b ∷ w) × (is_alphabetic b ≡ true) × Every (is_name_byte false) w
@@ -288,10 +303,15 @@ TagSpelt safe places n t r = (b : ℕ) × (xs : List ℕ) × (mid : List Placed)
 tag_by : (safe : Bool) (places : Places) (n b : ℕ) (w : List ℕ) (ps : List Part) (s : Bool) (r : List ℕ) → is_alphabetic b ≡ true → Every (is_name_byte false) w → AreParts false ps → TagSpelt safe places n (record { name = b ∷ w; parts = ps; slash = s }) r
 tag_by safe places n b w ps s r h k p =
     let a = n + length (b ∷ w) in
-    let rest = write_parts ps (write_slash s (62 ∷ r)) in
-    (b, w ++ rest, placed a rest, refl, h,
+    let rest = write_parts ps (write_slash s (62 ∷ r)) in (
+      b,
+      w ++ rest,
+      placed a rest,
+      refl,
+      h,
       name_spelt false b (suc n) a w rest k (behind_parts (is_name_byte false) (blank_no_name false) refl refl ps p s r) (omega arith),
-      tag_end_spelt safe places a (n + tag_length (record { name = b ∷ w; parts = ps; slash = s })) ps s r p (omega arith))
+      tag_end_spelt safe places a (n + tag_length (record { name = b ∷ w; parts = ps; slash = s })) ps s r p (omega arith),
+    )
 
 tag_spelt : (safe of_raw : Bool) (places : Places) (n : ℕ) (t : Tag) (r : List ℕ) → IsTag of_raw t → TagSpelt safe places n t r
 tag_spelt safe of_raw places n t r h =
@@ -385,34 +405,40 @@ markup_spelt places n (comment u) r h =
 markup_spelt places n (doctype w u) r h =
     let k = word_of w h.0 in
     let m = n + (length w + length u + 3) in
-    let long : length w ≡ length k.1 + 1 = ap length k.2 ∙ omega arith in
-    (33 ∷ (k.0 ∷ (k.1 ++ (u ++ 62 ∷ r))), ap (λ x. 60 ∷ 33 ∷ (x ++ (u ++ 62 ∷ r))) k.2,
+    let long : length w ≡ length k.1 + 1 = ap length k.2 ∙ omega arith in (
+      33 ∷ (k.0 ∷ (k.1 ++ (u ++ 62 ∷ r))),
+      ap (λ x. 60 ∷ 33 ∷ (x ++ (u ++ 62 ∷ r))) k.2,
       item_spelt places (places ++ []) 33 n (k.0 ∷ (k.1 ++ (u ++ 62 ∷ r))) (placed m r) refl
-      (declared_spelt places n m k.0 (k.1 ++ (u ++ 62 ∷ r)) r (or_second (k.0 == 45) (lower k.0 == 100) k.3) (word_spelt (suc (suc (suc n))) m k.0 k.1 u r k.3 k.4 h.1 (omega arith))))
+          (declared_spelt places n m k.0 (k.1 ++ (u ++ 62 ∷ r)) r (or_second (k.0 == 45) (lower k.0 == 100) k.3) (word_spelt (suc (suc (suc n))) m k.0 k.1 u r k.3 k.4 h.1 (omega arith))),
+    )
 markup_spelt places n (closing t) r h =
     let k = tag_spelt true false places (suc (suc n)) t r h in
     let two : suc (suc n) ≡ n + 2 = omega arith in
     let v = places ++ tag_places true (suc (suc n)) t in
-    let rest : suc (suc n) + tag_length t ≡ n + (tag_length t + 2) = omega arith in
-    (47 ∷ (k.0 ∷ k.1), ap (λ x. 60 ∷ 47 ∷ x) k.3,
+    let rest : suc (suc n) + tag_length t ≡ n + (tag_length t + 2) = omega arith in (
+      47 ∷ (k.0 ∷ k.1),
+      ap (λ x. 60 ∷ 47 ∷ x) k.3,
       item_spelt places (places ++ tag_places true (n + 2) t) 47 n (k.0 ∷ k.1) (placed (n + (tag_length t + 2)) r) refl
-      (subst (λ j. Spells (f.item_from places 47) (placed (suc (suc n)) (k.0 ∷ k.1)) (places ++ tag_places true j t) (placed (n + (tag_length t + 2)) r)) two
-      (at_offset (f.item_from places 47) (placed (suc (suc n)) (k.0 ∷ k.1)) v r (suc (suc n) + tag_length t) (n + (tag_length t + 2)) rest
-      (closing_spelt places v n k.0 k.1 (map lower t.name) k.2 (placed (suc (suc n) + tag_length t) r) k.4 h.1 k.5 k.6))))
+          (subst (λ j. Spells (f.item_from places 47) (placed (suc (suc n)) (k.0 ∷ k.1)) (places ++ tag_places true j t) (placed (n + (tag_length t + 2)) r)) two
+          (at_offset (f.item_from places 47) (placed (suc (suc n)) (k.0 ∷ k.1)) v r (suc (suc n) + tag_length t) (n + (tag_length t + 2)) rest
+          (closing_spelt places v n k.0 k.1 (map lower t.name) k.2 (placed (suc (suc n) + tag_length t) r) k.4 h.1 k.5 k.6))),
+    )
 markup_spelt places n (opening t) r h =
     let k = tag_spelt true false places (suc n) t r h in
     let one : suc n ≡ n + 1 = omega arith in
     let v = places ++ tag_places true (suc n) t in
     let name = map lower t.name in
     let z = placed (suc n + tag_length t) r in
-    let rest : suc n + tag_length t ≡ n + (tag_length t + 1) = omega arith in
-    (k.0 ∷ k.1, ap (λ x. 60 ∷ x) k.3,
+    let rest : suc n + tag_length t ≡ n + (tag_length t + 1) = omega arith in (
+      k.0 ∷ k.1,
+      ap (λ x. 60 ∷ x) k.3,
       item_spelt places (places ++ tag_places true (n + 1) t) k.0 n k.1 (placed (n + (tag_length t + 1)) r) (letter_begins k.0 k.4)
-      (subst (λ j. Spells (f.item_from places k.0) (placed (suc (suc n)) k.1) (places ++ tag_places true j t) (placed (n + (tag_length t + 1)) r)) one
-      (at_offset (f.item_from places k.0) (placed (suc (suc n)) k.1) v r (suc n + tag_length t) (n + (tag_length t + 1)) rest
-      (opening_from places v k.0 (placed (suc (suc n)) k.1) z k.4
-      (opening_spelt places v v k.0 (placed (suc (suc n)) k.1) name k.2 z z k.5
-      (subst (λ s. Spells (f.tag_end s places) k.2 v z) (sym (ap not h.1)) k.6) (behind_plain name v z (is_raw name) h.1))))))
+          (subst (λ j. Spells (f.item_from places k.0) (placed (suc (suc n)) k.1) (places ++ tag_places true j t) (placed (n + (tag_length t + 1)) r)) one
+          (at_offset (f.item_from places k.0) (placed (suc (suc n)) k.1) v r (suc n + tag_length t) (n + (tag_length t + 1)) rest
+          (opening_from places v k.0 (placed (suc (suc n)) k.1) z k.4
+          (opening_spelt places v v k.0 (placed (suc (suc n)) k.1) name k.2 z z k.5
+          (subst (λ s. Spells (f.tag_end s places) k.2 v z) (sym (ap not h.1)) k.6) (behind_plain name v z (is_raw name) h.1))))),
+    )
 markup_spelt places n (raw t u d) r h =
     let xs = u ++ (d ++ 62 ∷ r) in
     let k = tag_spelt false true places (suc n) t xs h.0 in
@@ -420,14 +446,16 @@ markup_spelt places n (raw t u d) r h =
     let name = map lower t.name in
     let m = n + (tag_length t + length u + length d + 2) in
     let z = placed (suc n + tag_length t) xs in
-    let is : v ≡ places ++ [] = ap (λ x. places ++ x) (none_safe (suc n + length t.name) t.parts) in
-    (k.0 ∷ k.1, ap (λ x. 60 ∷ x) k.3,
+    let is : v ≡ places ++ [] = ap (λ x. places ++ x) (none_safe (suc n + length t.name) t.parts) in (
+      k.0 ∷ k.1,
+      ap (λ x. 60 ∷ x) k.3,
       item_spelt places (places ++ []) k.0 n k.1 (placed m r) (letter_begins k.0 k.4)
-      (subst (λ x. Spells (f.item_from places k.0) (placed (suc (suc n)) k.1) x (placed m r)) is
-      (opening_from places v k.0 (placed (suc (suc n)) k.1) (placed m r) k.4
-      (opening_spelt places v v k.0 (placed (suc (suc n)) k.1) name k.2 z (placed m r) k.5
-      (subst (λ s. Spells (f.tag_end s places) k.2 v z) (sym (ap not h.0.1)) k.6)
-      (behind_raw name v z (placed m r) (is_raw name) h.0.1 (raw_spelt name (suc n + tag_length t) m u d r h.1 h.2 (omega arith)))))))
+          (subst (λ x. Spells (f.item_from places k.0) (placed (suc (suc n)) k.1) x (placed m r)) is
+          (opening_from places v k.0 (placed (suc (suc n)) k.1) (placed m r) k.4
+          (opening_spelt places v v k.0 (placed (suc (suc n)) k.1) name k.2 z (placed m r) k.5
+          (subst (λ s. Spells (f.tag_end s places) k.2 v z) (sym (ap not h.0.1)) k.6)
+          (behind_raw name v z (placed m r) (is_raw name) h.0.1 (raw_spelt name (suc n + tag_length t) m u d r h.1 h.2 (omega arith)))))),
+    )
 
 -- ---- pages
 

@@ -46,11 +46,7 @@ fn cover(safe: &mut [bool], from: usize, to: usize)
 }
 
 /// Of each offset below the length, whether it is in one of the places.
-fn covered(
-    alloc: Global,
-    places: &[(usize, usize)],
-    len: usize,
-) -> Result<Vec<bool>, AllocError>
+fn covered(alloc: Global, places: &[(usize, usize)], len: usize) -> Result<Vec<bool>, AllocError>
     ensures all { IfOk result (λ v. vec_len v ≡ len) }
     ensures noted { IfOk result (λ v. (k : ℕ) → k < len → get_or v.items k false ≡ is_inside places.now k) }
 {
@@ -75,13 +71,7 @@ fn first_bare(safe: &[bool], from: usize, to: usize) -> Option<usize>
 }
 
 /// The first offset of a run with this set that isn't safe, if the set has a number of `bad`.
-fn first_of_run(
-    set: &PSet,
-    bad: &PSet,
-    safe: &[bool],
-    from: usize,
-    to: usize,
-) -> Option<usize>
+fn first_of_run(set: &PSet, bad: &PSet, safe: &[bool], from: usize, to: usize) -> Option<usize>
     requires { to ≤ length safe.now }
     ensures { IsFirst (λ k. meets bad.now set.now && not (get_or safe.now k false)) from to result }
 {

@@ -6,7 +6,7 @@ ghost use Rattle.resin_sql_words.specs.Forms.{under};
 ghost use Rattle.resin_guard.specs.Answers.{Reads};
 ghost use Rattle.resin_guard.specs.Pages as spec;
 
-use crate::stretch::{before, byte, doctype, comment};
+use crate::stretch::{before, byte, comment, doctype};
 use crate::tag::{closing, is_alphabetic, opening, put};
 use resin_lstr::Parts;
 use resin_scan::bytes::lower;

@@ -64,11 +64,7 @@ fn ended(bytes: &ByteCursor<'_>, done: bool) -> Result<(), PageFault>
     ensures { Reads (under (spec.ended done) bytes.now) result bytes.now }
 {
     let _place = bytes;
-    if done {
-        Ok(())
-    } else {
-        Err(PageFault::Syntax)
-    }
+    if done { Ok(()) } else { Err(PageFault::Syntax) }
 }
 
 /// Passes the letters of a word, given in lower case.

@@ -26,7 +26,8 @@ returns-in-Err c =
     let is_text : c.new-bytes.result ≡ placed 0 (bytes_of d) = c.new-bytes.ensures ∙ ap (placed 0) c.bytes.ensures in
     let offset : c.saturating_sub.result ≡ length (bytes_of d) - c.left-left.result = omega (arith, c.saturating_sub.ensures, c.len.ensures.value, length-map d (λ (p : ℕ × NumberSet). p.0)) in
     of_fault c.args.bad.now d c.refused.result c.in-Err.fault c.saturating_sub.result c.refused.ensures (λ e.
-      let stopped : under (page []) c.new-bytes.result ≡ Stop c.read_page-found.new.bytes
-      = subst (λ (x : PageFault). Reads (under (page []) c.new-bytes.result) (Err x) c.read_page-found.new.bytes) e c.in-Err.ensures.reads in
-      (no_page (bytes_of d) c.new-bytes.result c.read_page-found.new.bytes is_text stopped,
-        subst (IsFirstFault (bytes_of d)) (sym offset) (fault_at (bytes_of d) c.new-bytes.result c.read_page-found.new.bytes is_text c.left-left.result c.left-left.ensures stopped)))
+    let stopped : under (page []) c.new-bytes.result ≡ Stop c.read_page-found.new.bytes
+    = subst (λ (x : PageFault). Reads (under (page []) c.new-bytes.result) (Err x) c.read_page-found.new.bytes) e c.in-Err.ensures.reads in (
+      no_page (bytes_of d) c.new-bytes.result c.read_page-found.new.bytes is_text stopped,
+      subst (IsFirstFault (bytes_of d)) (sym offset) (fault_at (bytes_of d) c.new-bytes.result c.read_page-found.new.bytes is_text c.left-left.result c.left-left.ensures stopped),
+    ))

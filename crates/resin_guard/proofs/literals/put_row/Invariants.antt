@@ -1,6 +1,5 @@
 use Rattle.std.proofs.Common.{◌≡◌, ◌++◌, take}
 use Rattle.std.specs.List.{flat_map}
-
 use Rattle.resin_guard.specs.Literals.{of_literal}
 use Rattle.resin_guard.proofs.literals.put_row.Given as goal
 
