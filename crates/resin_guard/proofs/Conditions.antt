@@ -1,5 +1,5 @@
 -- The places of a condition by its parts.
-use Rattle.std.proofs.Common.{◌≡◌, List, map, sym, ap, ◌∙◌}
+use Rattle.std.proofs.Common.{◌≡◌, List, sym, ap, ◌∙◌}
 use Rattle.std.specs.List.{flat_map}
 use Rattle.std.proofs.lemmas.List.Folds.{flat_map-map}
 use Rattle.resin_sql.specs.declared.tree.Condition.{Condition, Condition-F, fold-Condition, fold-roll-Condition}

@@ -1,5 +1,5 @@
 -- From the outcome of reading a text to what it says of pages.
-use Rattle.std.proofs.Common.{◌≡◌, ℕ, zero, suc, ◌+◌, ◌-◌, ◌<◌, ◌≤◌, List, [], ◌∷◌, ◌++◌, inl, inr, length, take, Result, Option, None, Ok, Err, refl, sym, ap, subst, ◌∙◌, arith, append_assoc, length-append}
+use Rattle.std.proofs.Common.{◌≡◌, ℕ, suc, ◌+◌, ◌-◌, ◌<◌, List, [], ◌∷◌, ◌++◌, inl, length, take, None, refl, sym, ap, subst, ◌∙◌, arith, append_assoc, length-append}
 use Rattle.resin_form.specs.Reading.{Got, Stop}
 use Rattle.resin_form.specs.Reads.{first}
 use Rattle.resin_form.specs.Meaning.{NameSpells, NameBegins, allows_at, reading, SpellsWithin, BeginsWithin, EndsLongest}

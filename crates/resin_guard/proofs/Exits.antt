@@ -1,6 +1,6 @@
 -- The exit of a loop that reads a repeated form, where a turn fails.
-use Rattle.std.proofs.Common.{◌≡◌, ℕ, Bool, true, List, ◌∷◌, Err, sym, ◌∙◌, ap}
-use Rattle.resin_form.specs.Form.{Begin, After, many}
+use Rattle.std.proofs.Common.{◌≡◌, Bool, true, List, ◌∷◌, Err, sym, ◌∙◌, ap}
+use Rattle.resin_form.specs.Form.{After, many}
 use Rattle.resin_form.specs.Reading.{Outcome}
 use Rattle.resin_form.proofs.Loops.{many_stops}
 use Rattle.resin_sql_words.specs.declared.cursor.Placed.{Placed}

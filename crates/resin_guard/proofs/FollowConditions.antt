@@ -1,24 +1,21 @@
 -- Conditions in a text with other bytes between its quotes.
-use Rattle.std.proofs.Common.{◌≡◌, ℕ, zero, suc, Bool, true, false, List, [], ◌∷◌, ◌++◌, Option, Some, None, map, refl, sym, ap, ◌∙◌}
-use Rattle.std.specs.Prelude.{◌==◌, ◌&&◌, ◌||◌, not, codes}
+use Rattle.std.proofs.Common.{◌≡◌, ℕ, zero, suc, Bool, true, false, List, [], ◌∷◌, ◌++◌, map, refl, sym, ap, ◌∙◌}
+use Rattle.std.specs.Prelude.{◌==◌, codes}
 use Rattle.std.proofs.lemmas.List.{map-append}
-use Rattle.resin_form.specs.Form.{give, taken}
-use Rattle.resin_scan.specs.Bytes.{is_letter, lower}
-use Rattle.resin_sql_words.specs.declared.cursor.Placed.{Placed}
+use Rattle.resin_scan.specs.Bytes.{lower}
 use Rattle.resin_sql_words.specs.declared.literals.Literal.{Literal}
-use Rattle.resin_sql_words.specs.Forms.{Rule, ◌>>=◌, ◌>>◌, either, never}
-use Rattle.resin_sql_words.specs.Words.{Ended, name_from}
+use Rattle.resin_sql_words.specs.Forms.{Rule}
+use Rattle.resin_sql_words.specs.Words.{Ended}
 use Rattle.resin_sql.specs.Conditions as f
 use Rattle.resin_sql.specs.Conditions.{Tested, Atom, Several, Ways, Behind, is_and, is_or, begins_test}
 use Rattle.resin_sql.specs.declared.tree.Comparison.{Comparison}
-use Rattle.resin_sql.specs.declared.tree.Comparison.TheVariants as o
 use Rattle.resin_sql.specs.declared.tree.Condition.{Condition, Condition-F, fold-Condition, fold-roll-Condition}
 use Rattle.resin_sql.specs.declared.tree.Condition.TheVariants as c
 use Rattle.resin_sql.specs.declared.tree.Test.{Test}
 use Rattle.resin_sql.specs.declared.tree.Test.TheVariants as t
-use Rattle.resin_guard.specs.Requoted.{shape_of_literal, shape_of_test, shape_of_level, shape_of_condition}
-use Rattle.resin_guard.proofs.Follows.{Follows, FollowsBehind, Followed, whole, behind_taken, gives, followed_by, and_then, nexts, maybes, manys, choices, nevers, weaken}
-use Rattle.resin_guard.proofs.FollowWords.{gap_follows, letters_follow, word_follows, keyword_follows, sign_follows, name_from_follows, ended_shape, literal_follows}
+use Rattle.resin_guard.specs.Requoted.{shape_of_test, shape_of_level, shape_of_condition}
+use Rattle.resin_guard.proofs.Follows.{Follows, whole, behind_taken, gives, followed_by, and_then, nexts, maybes, manys, choices, nevers, weaken}
+use Rattle.resin_guard.proofs.FollowWords.{gap_follows, letters_follow, word_follows, keyword_follows, sign_follows, ended_shape, literal_follows}
 
 -- ---- shapes by their parts
 

@@ -1,14 +1,12 @@
 -- Statements in a text with other bytes between its quotes.
-use Rattle.std.proofs.Common.{◌≡◌, ℕ, Bool, true, false, List, [], ◌∷◌, ◌++◌, Option, Some, None, length, map, refl, sym, ap, subst, ◌∙◌}
-use Rattle.std.specs.Prelude.{◌==◌, ◌&&◌, ◌||◌, nat_lt, codes}
+use Rattle.std.proofs.Common.{◌≡◌, ℕ, Bool, true, false, List, [], ◌∷◌, ◌++◌, Option, Some, length, map, refl, sym, ap, subst, ◌∙◌}
+use Rattle.std.specs.Prelude.{◌==◌, codes}
 use Rattle.resin_base.specs.declared.cell.Column.{Column}
-use Rattle.resin_base.specs.declared.cell.Kind.TheVariants as kinds
-use Rattle.resin_form.specs.Form.{give, taken}
-use Rattle.resin_scan.specs.Bytes.{is_digit, is_letter, lower}
-use Rattle.resin_sql_words.specs.declared.cursor.Placed.{Placed}
+use Rattle.resin_form.specs.Form.{give}
+use Rattle.resin_scan.specs.Bytes.{lower}
 use Rattle.resin_sql_words.specs.declared.literals.Literal.{Literal}
 use Rattle.resin_sql_words.specs.Places.{placed}
-use Rattle.resin_sql_words.specs.Forms.{Rule, ◌>>=◌, ◌>>◌, either}
+use Rattle.resin_sql_words.specs.Forms.{◌>>=◌}
 use Rattle.resin_sql_words.specs.Words.{Ended, name_from}
 use Rattle.resin_sql.specs.Answers.{IsStatement}
 use Rattle.resin_sql.specs.Conditions.{Behind, atom}
@@ -17,13 +15,12 @@ use Rattle.resin_sql.specs.Statements.{Chosen, Columns, is_comma, is_next_column
 use Rattle.resin_sql.specs.declared.tree.Change.{Change}
 use Rattle.resin_sql.specs.declared.tree.Condition.{Condition}
 use Rattle.resin_sql.specs.declared.tree.Order.{Order}
-use Rattle.resin_sql.specs.declared.tree.Stmt.{Stmt}
 use Rattle.resin_sql.specs.declared.tree.Stmt.TheVariants as s
 use Rattle.resin_guard.specs.Requoted as q
 use Rattle.resin_guard.specs.Requoted.{Requoted, shape_of_literal, shape_of_condition, shape_of_where, shape_of_change, shape_of_rows, shape_of, KeepsStatement}
-use Rattle.resin_guard.proofs.Follows.{Spells, Follows, FollowsBehind, Followed, whole, behind_taken, gives, followed_by, and_then, nexts, maybes, manys, choices, nevers, weaken}
-use Rattle.resin_guard.proofs.FollowWords.{gap_follows, letters_follow, word_follows, keyword_follows, sign_follows, named_follows, name_from_follows, digits_follow, ended_shape, literal_follows}
-use Rattle.resin_guard.proofs.FollowConditions.{pair, pushed, any_shape, any_of_follows, atom_follows}
+use Rattle.resin_guard.proofs.Follows.{Spells, Follows, whole, behind_taken, gives, followed_by, and_then, nexts, maybes, manys, choices, weaken}
+use Rattle.resin_guard.proofs.FollowWords.{gap_follows, word_follows, keyword_follows, sign_follows, named_follows, name_from_follows, digits_follow, literal_follows}
+use Rattle.resin_guard.proofs.FollowConditions.{pair, pushed, any_of_follows, atom_follows}
 
 -- ---- CREATE
 

@@ -1,26 +1,25 @@
 -- Words, names and literals in a text with other bytes between its quotes.
-use Rattle.std.proofs.Common.{◌≡◌, ℕ, zero, suc, ◌+◌, Bool, true, false, List, [], ◌∷◌, ◌++◌, Option, Some, None, inl, inr, length, map, refl, sym, ap, subst, ◌∙◌, arith}
-use Rattle.std.specs.Prelude.{◌==◌, ◌&&◌, ◌||◌, not, nat_lt, nat_le, codes, ◌-◌, if◌then◌else◌}
-use Rattle.std.proofs.lemmas.Bool.{eqb-true, eq-eqb}
-use Rattle.resin_form.specs.Form.{EndsBefore, Many, done, more, give, next, taken}
+use Rattle.std.proofs.Common.{◌≡◌, ℕ, suc, ◌+◌, Bool, true, false, List, [], ◌∷◌, ◌++◌, Option, Some, None, length, refl, sym, ap, subst, ◌∙◌}
+use Rattle.std.specs.Prelude.{◌==◌, ◌&&◌, not, nat_lt, nat_le, codes, ◌-◌, if◌then◌else◌}
+use Rattle.resin_form.specs.Form.{EndsBefore, done, more, give}
 use Rattle.resin_form.specs.Reading.{Got}
 use Rattle.resin_form.specs.Meaning.{NameSpells, NameBegins, allows_at, reading, SpellsWithin, BeginsWithin}
 use Rattle.resin_form.proofs.Exact.{Exact, exact}
 use Rattle.resin_form.proofs.Fronts.{shrinks}
-use Rattle.resin_scan.specs.Bytes.{is_blank, is_letter, is_word_byte, is_digit, lower}
+use Rattle.resin_scan.specs.Bytes.{is_digit}
 use Rattle.resin_scan.specs.Lists.{NotBefore}
 use Rattle.resin_sql_words.specs.declared.cursor.Placed.{Placed}
 use Rattle.resin_sql_words.specs.declared.literals.Literal.{Literal}
 use Rattle.resin_sql_words.specs.declared.literals.Literal.TheVariants as l
 use Rattle.resin_sql_words.specs.Places.{placed}
-use Rattle.resin_sql_words.specs.Forms.{Rule, rules, in_limits, under, ◌>>=◌, ◌>>◌, either, never, within}
+use Rattle.resin_sql_words.specs.Forms.{Rule, rules, in_limits, under, either, within}
 use Rattle.resin_sql_words.specs.Words as w
 use Rattle.resin_sql_words.specs.Words.{Ended, is_reserved}
 use Rattle.resin_sql_words.specs.Literals as t
 use Rattle.resin_sql_words.specs.Literals.{greatest, signed, with_digit, quoted_step, is_quoted, begins_literal}
 use Rattle.resin_guard.specs.Requoted.{Requoted, doubled, nowhere, shape_of_literal}
 use Rattle.resin_guard.specs.Requoted as q
-use Rattle.resin_guard.proofs.Follows.{Spells, Follows, FollowsBehind, Followed, whole, behind_taken, gives, followed_by, and_then, apart, nexts, maybes, manys, choices, nevers, withins}
+use Rattle.resin_guard.proofs.Follows.{Spells, Follows, FollowsBehind, Followed, whole, behind_taken, gives, followed_by, and_then, nexts, manys, choices, nevers, withins}
 
 -- ---- blanks, keywords and names
 

@@ -1,12 +1,10 @@
 -- Forms that read a text with other bytes between its quotes as they read the text.
-use Rattle.std.proofs.Common.{◌≡◌, ℕ, zero, suc, ◌+◌, Bool, true, false, List, [], ◌∷◌, ◌++◌, inl, inr, length, map, refl, sym, ap, subst, ◌∙◌, arith}
-use Rattle.std.specs.Prelude.{◌==◌, ◌&&◌, ◌||◌, not}
-use Rattle.resin_form.specs.Form.{Own, After, EndsBefore, Many, done, more, give, next, maybe, many, taken, SpellsAfter}
+use Rattle.std.proofs.Common.{◌≡◌, ℕ, suc, Bool, true, false, List, [], ◌∷◌, inl, inr, refl, sym, ap, subst, ◌∙◌}
+use Rattle.resin_form.specs.Form.{EndsBefore, Many, done, more, give, next, maybe, many, taken, SpellsAfter}
 use Rattle.resin_form.specs.Meaning.{SpellsWithin, NameSpells, allows_at}
-use Rattle.resin_scan.specs.Lists.{NotBefore}
 use Rattle.resin_sql_words.specs.declared.cursor.Placed.{Placed}
 use Rattle.resin_sql_words.specs.Places.{placed}
-use Rattle.resin_sql_words.specs.Forms.{Rule, Behind, Value, rules, in_limits, ◌>>=◌, ◌>>◌, either, never, within}
+use Rattle.resin_sql_words.specs.Forms.{Rule, Behind, rules, in_limits, ◌>>=◌, either, never, within}
 use Rattle.resin_guard.specs.Requoted.{Requoted, doubled}
 use Rattle.resin_guard.specs.Requoted as quo
 

@@ -1,11 +1,11 @@
 -- With other data and other safe values a page stays lawful.
-use Rattle.std.proofs.Common.{◌≡◌, ℕ, Bool, true, false, List, [], ◌∷◌, map, sym, ap, subst, ◌∙◌}
+use Rattle.std.proofs.Common.{Bool, true, false, List, [], ◌∷◌, map, sym, ap, subst, ◌∙◌}
 use Rattle.std.specs.Prelude.{◌==◌, ◌&&◌, not}
 use Rattle.resin_scan.specs.Bytes.{lower}
 use Rattle.resin_scan.specs.Lists.{Every}
-use Rattle.resin_guard.specs.Pages.{Places, is_blank, is_raw, is_harmful}
+use Rattle.resin_guard.specs.Pages.{is_blank, is_raw, is_harmful}
 use Rattle.resin_guard.specs.Answers.{IsPage}
-use Rattle.resin_guard.specs.Items.{Value, none, quoted, Part, blank, attribute, Tag, Markup, comment, doctype, closing, opening, raw, Items, end, item, Page, written, safe_places, IsName, is_quote, IsValue, AreParts, IsTag, IsMarkup, AreItems, IsLawful, OtherValue, OtherParts, OtherTag, OtherMarkup, OtherItems, Refilled, KeepsItems}
+use Rattle.resin_guard.specs.Items.{Value, none, quoted, Part, blank, attribute, Tag, Markup, closing, opening, Items, end, item, IsName, is_quote, IsValue, AreParts, IsTag, IsMarkup, AreItems, IsLawful, OtherValue, OtherParts, OtherTag, OtherMarkup, OtherItems, KeepsItems}
 use Rattle.resin_guard.proofs.Found.{page_found}
 use Rattle.resin_guard.proofs.Written.{page_written}
 

@@ -1,5 +1,5 @@
 -- What places judge is what a guard answers.
-use Rattle.std.proofs.Common.{◌≡◌, ℕ, List, Result, Ok, Err, sym, subst}
+use Rattle.std.proofs.Common.{◌≡◌, ℕ, Result, Ok, Err, sym, subst}
 use Rattle.std.specs.Prelude.{IfOk}
 use Rattle.resin_label.specs.Sets.{NumberSet}
 use Rattle.resin_lstr.specs.Texts.{Text, bytes_of}

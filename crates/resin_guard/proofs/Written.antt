@@ -1,5 +1,5 @@
 -- What lawful items are written as is a page.
-use Rattle.std.proofs.Common.{◌≡◌, ℕ, zero, suc, ◌+◌, ◌<◌, Bool, true, false, List, [], ◌∷◌, ◌++◌, ◌⊎◌, inl, inr, length, map, refl, sym, ap, subst, ◌∙◌, arith, append_assoc, append-nil}
+use Rattle.std.proofs.Common.{◌≡◌, ℕ, suc, ◌+◌, Bool, true, false, List, [], ◌∷◌, ◌++◌, ◌⊎◌, inl, inr, length, map, refl, sym, ap, subst, ◌∙◌, arith, append_assoc, append-nil}
 use Rattle.std.specs.Prelude.{◌==◌, ◌&&◌, ◌||◌, not, nat_lt, codes}
 use Rattle.std.proofs.lemmas.Bool.{eqb-true, eq-eqb, le-ltb}
 use Rattle.resin_form.specs.Form.{EndsBefore, Many, done, more, give}
@@ -8,12 +8,12 @@ use Rattle.resin_scan.specs.Lists.{Every, NotBefore}
 use Rattle.resin_scan.specs.Words.{spells}
 use Rattle.resin_sql_words.specs.declared.cursor.Placed.{Placed}
 use Rattle.resin_sql_words.specs.Places.{placed}
-use Rattle.resin_sql_words.specs.Forms.{Rule, rules, in_limits, ◌>>=◌, ◌>>◌, either, never}
+use Rattle.resin_sql_words.specs.Forms.{Rule, ◌>>=◌, ◌>>◌, either, never}
 use Rattle.resin_sql_words.specs.Words.{letters}
 use Rattle.resin_guard.specs.Pages as f
 use Rattle.resin_guard.specs.Pages.{Places, Attributes, is_blank, is_alphabetic, is_name_byte, is_raw, is_harmful, comment_step, raw_step, is_next, begins_item}
 use Rattle.resin_guard.specs.Answers.{IsPage}
-use Rattle.resin_guard.specs.Items.{Value, none, quoted, Part, blank, attribute, Tag, Markup, comment, doctype, closing, opening, raw, Items, end, item, Page, write_value, write_part, write_parts, write_slash, write_tag, write_markup, write_items, written, IsName, is_data, is_quote, IsValue, AreParts, IsTag, ends, ends_comment, ends_raw, IsMarkup, AreItems, IsLawful, value_length, part_length, parts_length, slash_length, tag_length, markup_length, value_places, part_places, parts_places, tag_places, markup_places, data_places, items_places, places_at, safe_places}
+use Rattle.resin_guard.specs.Items.{Value, none, quoted, Part, blank, attribute, Tag, Markup, comment, doctype, closing, opening, raw, Items, end, item, Page, write_value, write_parts, write_slash, write_tag, write_markup, write_items, written, IsName, is_data, is_quote, IsValue, AreParts, IsTag, ends, ends_comment, ends_raw, IsMarkup, AreItems, IsLawful, value_length, part_length, parts_length, slash_length, tag_length, markup_length, value_places, part_places, parts_places, tag_places, markup_places, data_places, items_places, safe_places}
 use Rattle.resin_guard.proofs.Found.{Spells, reach, reach_is, kept, and_left, and_right, is_gap}
 
 -- ---- the byte that comes next

@@ -1,5 +1,5 @@
 -- Pages by their items, as they are written: data, and markup with data behind it.
-use Rattle.std.specs.Prelude.{◌≡◌, ℕ, suc, ◌+◌, Bool, true, false, not, ◌&&◌, ◌||◌, ◌==◌, nat_lt, List, [], ◌∷◌, ◌++◌, length, map}
+use Rattle.std.specs.Prelude.{◌≡◌, ℕ, ◌+◌, Bool, true, false, not, ◌&&◌, ◌||◌, ◌==◌, nat_lt, List, [], ◌∷◌, ◌++◌, length, map}
 use Rattle.resin_scan.specs.Bytes.{lower}
 use Rattle.resin_scan.specs.Lists.{Every}
 use Rattle.resin_scan.specs.Words.{spells}

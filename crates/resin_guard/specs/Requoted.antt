@@ -1,5 +1,5 @@
 -- Queries with other texts between their quotes, and statements but for what their text literals hold.
-use Rattle.std.specs.Prelude.{◌≡◌, ℕ, Bool, true, false, ◌==◌, List, [], ◌∷◌, ◌++◌, map, Option, Some, None, if◌then◌else◌}
+use Rattle.std.specs.Prelude.{◌≡◌, ℕ, false, ◌==◌, List, [], ◌∷◌, ◌++◌, map, Option, Some, None, if◌then◌else◌}
 use Rattle.resin_scan.specs.Lists.{NotBefore}
 use Rattle.resin_sql_words.specs.declared.literals.Literal.{Literal}
 use Rattle.resin_sql_words.specs.declared.literals.Literal.TheVariants as l

@@ -1,4 +1,4 @@
-use Rattle.std.proofs.Common.{◌≡◌, ℕ, ◌<◌, refl, arith}
+use Rattle.std.proofs.Common.{refl, arith}
 use Rattle.resin_guard.proofs.Firsts.{within, next, run_none, run_some, none_left}
 use Rattle.resin_guard.proofs.judge.first_untrusted.Goals as goal
 

@@ -1,4 +1,4 @@
-use Rattle.std.proofs.Common.{◌≡◌, Bool, false, List, length, get_or, Some, None, ap, ◌∙◌, arith}
+use Rattle.std.proofs.Common.{Bool, false, List, get_or, Some, None, ap, ◌∙◌, arith}
 use Rattle.resin_guard.proofs.Firsts.{by_places}
 use Rattle.resin_guard.proofs.judge.judged.Goals as goal
 

@@ -1,4 +1,4 @@
-use Rattle.std.proofs.Common.{◌≡◌, true, Some, None, rules, refl, ap}
+use Rattle.std.proofs.Common.{true, None, rules, refl, ap}
 use Rattle.std.proofs.lemmas.Result.{err_from_is_err_and}
 use Rattle.resin_form.specs.Form.{taken}
 use Rattle.resin_form.proofs.Turns.{smaller, goes_on, ends}

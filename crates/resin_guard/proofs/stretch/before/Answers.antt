@@ -1,4 +1,4 @@
-use Rattle.std.proofs.Common.{◌≡◌, ◌+◌, true, false, Some, None, rules, refl}
+use Rattle.std.proofs.Common.{◌≡◌, ◌+◌, true, Some, None, rules, refl}
 use Rattle.std.specs.Prelude.{not, ◌==◌}
 use Rattle.resin_form.specs.Form.{give, taken}
 use Rattle.resin_form.proofs.Turns.{goes_on, ends}

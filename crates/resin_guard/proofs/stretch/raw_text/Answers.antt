@@ -1,4 +1,4 @@
-use Rattle.std.proofs.Common.{◌≡◌, ◌+◌, true, false, Some, None, rules, refl, ap, sym, length}
+use Rattle.std.proofs.Common.{◌≡◌, ◌+◌, true, Some, None, rules, ap, sym, length}
 use Rattle.std.specs.Prelude.{nat_lt}
 use Rattle.resin_form.specs.Form.{give, taken}
 use Rattle.resin_form.specs.Reading.{Got}
