@@ -1,0 +1,15 @@
+pub mod Exits
+pub mod Endings
+pub mod Firsts
+pub mod Verdicts
+pub mod Steps
+pub mod Conditions
+pub mod Queries
+pub mod Runs
+pub mod Found
+pub mod Written
+pub mod Refills
+pub mod Follows
+pub mod FollowWords
+pub mod FollowConditions
+pub mod FollowStatements

@@ -1,0 +1,7 @@
+pub mod Pages
+pub mod Answers
+pub mod Judged
+pub mod Guards
+pub mod Literals
+pub mod Items
+pub mod Requoted
