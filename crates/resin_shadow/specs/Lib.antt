@@ -1,4 +1,5 @@
 pub mod Marks
 pub mod Shadows
+pub mod Runs
 pub mod Answers
 pub mod Laws

@@ -1,7 +1,8 @@
 //! Runs of bytes that carry the same policies.
 ghost use Rattle.std.specs.Prelude.{◌≡◌, ◌+◌, ◌<◌, ◌^◌, ◌++◌, [], length, replicate, OnOk, OnErr};
-ghost use Rattle.resin_shadow.specs.Marks.{Marks, AreMarks, set_of};
-ghost use Rattle.resin_shadow.specs.Runs.{AreRunsOf};
+ghost use Rattle.std.specs.Prelude.{◌==◌};
+ghost use Rattle.resin_shadow.specs.Marks.{AreMarks};
+ghost use Rattle.resin_shadow.specs.Runs.{AreRunsOf, set_of};
 
 use crate::lists::FrozenList;
 use crate::numbers::Numbers;
