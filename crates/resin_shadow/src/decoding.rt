@@ -26,7 +26,11 @@ pub fn decode(alloc: Global, len: u64, shadow: &[u8]) -> Result<Option<FrozenRun
         return Ok(None);
     }
     let text = written(alloc, version, &runs)?;
-    Ok(if text.as_slice() == shadow { Some(runs) } else { None })
+    Ok(if text.as_slice() == shadow {
+        Some(runs)
+    } else {
+        None
+    })
 }
 
 // The version of a shadow text.
@@ -155,7 +159,11 @@ impl Table {
         for _ in 0..count {
             let policy = Frozen::read(alloc, rest)?;
             rest.literal(b"\n")?;
-            if !runs.texts.insert(policy.clone()?).map_err(AllocError::from)? {
+            if !runs
+                .texts
+                .insert(policy.clone()?)
+                .map_err(AllocError::from)?
+            {
                 return Err(Stop::Form);
             }
             policies.push(policy).map_err(AllocError::from)?;
@@ -182,24 +190,35 @@ impl Table {
         Ok(kinds)
     }
 
-    // The number of the set with the policies at these places, which are rising and split by single spaces.
+    // Places that are rising and split by single spaces, each behind the rank of its policy, by these ranks.
+    fn ranked(&self, alloc: Global, places: &[u8]) -> Result<Vec<(usize, usize)>, Stop> {
+        let mut ranked = Vec::new(alloc);
+        let mut least = 0;
+        for word in places.split(|b| *b == b' ') {
+            let place = number(word)? as usize;
+            match self.ranks.get(place) {
+                Some(rank) if place >= least => ranked
+                    .push((*rank, place))
+                    .map_err(AllocError::from)?,
+                _ => return Err(Stop::Form),
+            }
+            least = place.saturating_add(1);
+        }
+        ranked.sort()?;
+        Ok(ranked)
+    }
+
+    // The number of the set with the policies at these places.
     fn kind(
         &self,
         alloc: Global,
         runs: &mut FrozenRuns,
         places: Option<&[u8]>,
     ) -> Result<usize, Stop> {
-        let mut ranked = Vec::new(alloc);
-        if let Some(places) = places {
-            for word in places.split(|b| *b == b' ') {
-                let place = number(word)? as usize;
-                let Some(rank) = self.ranks.get(place) else {
-                    return Err(Stop::Form);
-                };
-                ranked.push((*rank, place)).map_err(AllocError::from)?;
-            }
-        }
-        ranked.sort()?;
+        let ranked = match places {
+            Some(places) => self.ranked(alloc, places)?,
+            None => Vec::new(alloc),
+        };
         let mut numbers = Numbers::new(alloc);
         let mut set = FrozenList::new(alloc);
         for (_, place) in &ranked {

@@ -18,7 +18,11 @@ pub fn encode(alloc: Global, m: &FrozenRuns) -> Result<Bytes, AllocError>
     if numbering.texts.items.is_empty() {
         return Ok(text);
     }
-    let counts = [numbering.texts.items.len(), numbering.sets.items.len(), m.runs.len()];
+    let counts = [
+        numbering.texts.items.len(),
+        numbering.sets.items.len(),
+        m.runs.len(),
+    ];
     push_head(&mut text, b"resin2", &counts)?;
     push_policies(&mut text, m, &numbering)?;
     for kind in &numbering.sets.items {
@@ -37,7 +41,11 @@ pub(crate) fn encode_first(alloc: Global, m: &FrozenRuns) -> Result<Bytes, Alloc
     if numbering.texts.items.is_empty() {
         return Ok(text);
     }
-    push_head(&mut text, b"resin1", &[numbering.texts.items.len(), m.runs.len()])?;
+    push_head(
+        &mut text,
+        b"resin1",
+        &[numbering.texts.items.len(), m.runs.len()],
+    )?;
     push_policies(&mut text, m, &numbering)?;
     for (i, run) in m.runs.iter().enumerate() {
         push_number(&mut text, run.len)?;
@@ -63,7 +71,11 @@ fn push_head(text: &mut Bytes, version: &[u8], counts: &[usize]) -> Result<(), A
 }
 
 // Puts the policy texts last, each on a line.
-fn push_policies(text: &mut Bytes, m: &FrozenRuns, numbering: &Numbering) -> Result<(), AllocError> {
+fn push_policies(
+    text: &mut Bytes,
+    m: &FrozenRuns,
+    numbering: &Numbering,
+) -> Result<(), AllocError> {
     for number in &numbering.texts.items {
         if let Some(policy) = m.texts.get_index(*number) {
             text.push_slice(policy.as_slice())?;

@@ -75,7 +75,11 @@ impl Numbering {
     }
 
     /// The places of the policies of a set, rising.
-    pub(crate) fn places(&self, alloc: Global, numbers: &Numbers) -> Result<Vec<usize>, AllocError> {
+    pub(crate) fn places(
+        &self,
+        alloc: Global,
+        numbers: &Numbers,
+    ) -> Result<Vec<usize>, AllocError> {
         let mut places = Vec::with_capacity(alloc, numbers.as_slice().len())?;
         for number in numbers.as_slice() {
             if let Some(place) = self.texts.place(*number) {

@@ -105,7 +105,11 @@ impl FrozenRuns {
     }
 
     // The number of the set of the texts with these numbers.
-    pub(crate) fn kind_in(&mut self, numbers: Numbers, set: &FrozenList) -> Result<usize, AllocError> {
+    pub(crate) fn kind_in(
+        &mut self,
+        numbers: Numbers,
+        set: &FrozenList,
+    ) -> Result<usize, AllocError> {
         match self.sets.get_index_of(&numbers) {
             Some(kind) => Ok(kind),
             None => {

@@ -33,7 +33,11 @@ fn runs_in(alloc: Global, row: &[&str]) -> Result<FrozenRuns, Stop> {
     let mut runs = FrozenRuns::new(alloc);
     for field in row {
         let mut words = field.split(' ');
-        let len = words.next().unwrap_or("").parse::<u64>().map_err(|_| Stop::Unreadable)?;
+        let len = words
+            .next()
+            .unwrap_or("")
+            .parse::<u64>()
+            .map_err(|_| Stop::Unreadable)?;
         let mut set = FrozenList::new(alloc);
         for word in words {
             set.push(policy_in(alloc, word)?)?;
@@ -132,14 +136,20 @@ fn policies(alloc: Global, count: u32) -> Result<Vec<Frozen>, Stop> {
     for i in 0..count {
         let name = format!(in alloc; "P{i}")?;
         let text = format!(in alloc; "O:{}:\"{}\":0:{{}}", name.len(), name.as_str())?;
-        out.push(policy(alloc, text.as_bytes())?).map_err(AllocError::from)?;
+        out.push(policy(alloc, text.as_bytes())?)
+            .map_err(AllocError::from)?;
     }
     Ok(out)
 }
 
 /// Puts last how long the shadow text of so many runs of one byte is, that have so many policies in turn, how many runs there are, and how many are read.
 pub fn push_many(alloc: Global, out: &mut String, row: &[&str]) -> Result<(), Stop> {
-    let number = |i: usize| row.get(i).copied().unwrap_or("").parse::<u32>().unwrap_or(0);
+    let number = |i: usize| row
+        .get(i)
+        .copied()
+        .unwrap_or("")
+        .parse::<u32>()
+        .unwrap_or(0);
     let (count, kinds, of_each) = (number(0), number(1), number(2));
     let policies = policies(alloc, kinds)?;
     let mut runs = FrozenRuns::new(alloc);
