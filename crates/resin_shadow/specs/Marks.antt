@@ -1,6 +1,6 @@
 -- Which policies the bytes of a text carry: for each byte a set of policy texts.
 use Rattle.std.specs.Prelude.{◌≡◌, ℕ, ◌+◌, ◌<◌, ◌^◌, Bool, not, ◌==◌, List, [], ◌∷◌, length, replicate, nat_eq, if◌then◌else◌}
-use Rattle.std.specs.List.{filter, flat_map, concat}
+use Rattle.std.specs.List.{filter, flat_map}
 use Rattle.std.specs.List.Sorted.{IsStrictlySortedBy}
 use Rattle.std.specs.Ordering.{nat_cmp}
 use Rattle.std.specs.Cmp.Lexicographic.{pointwise, slice_cmp}
@@ -53,7 +53,7 @@ spelled rs = flat_map (λ r. replicate r.0 r.1) rs
 
 -- the policy texts, ordered by the first byte that carries them, and those of one byte by their bytes
 abbrev pub policies : Marks → List (List ℕ)
-policies v = distinct bytes_eq (concat v)
+policies v = distinct bytes_eq (flat_map (λ s. s) v)
 
 -- the sets that have a policy, ordered by the first byte that has the set
 abbrev pub sets : Marks → List TextSet

@@ -6,19 +6,20 @@ use Rattle.std.specs.declared.cmp.Ordering.{Ordering}
 use Rattle.std.specs.declared.cmp.Ordering.TheVariants.{Less, Equal, Greater}
 use Rattle.std.specs.Cmp.Lexicographic.{slice_cmp}
 use Rattle.resin_frozen.specs.Policies.{IsPolicyText}
-use Rattle.resin_shadow.specs.declared.runs.FrozenRun.{FrozenRun}
+use Rattle.resin_shadow.specs.declared.table.FrozenRun.{FrozenRun}
+use Rattle.resin_shadow.specs.declared.table.Table.{Table}
 use Rattle.resin_shadow.specs.Marks.{TextSet, IsTextSet, Marks, MarkRun, Each, runs_of, spelled}
 
--- a set with a text put into it
-abbrev mutual
-  pub with_text : List ℕ → TextSet → TextSet
-  with_text t [] = t ∷ []
-  with_text t (u ∷ us) = beside (slice_cmp nat_cmp t u) t u us
+-- one of three, by an order
+abbrev pub by_order : {X : Type 0} → Ordering → X → X → X → X
+by_order Less a b c = a
+by_order Equal a b c = b
+by_order Greater a b c = c
 
-  pub beside : Ordering → List ℕ → List ℕ → TextSet → TextSet
-  beside Less t u us = t ∷ u ∷ us
-  beside Equal t u us = u ∷ us
-  beside Greater t u us = u ∷ with_text t us
+-- a set with a text put into it
+abbrev pub with_text : List ℕ → TextSet → TextSet
+with_text t [] = t ∷ []
+with_text t (u ∷ us) = by_order (slice_cmp nat_cmp t u) (t ∷ u ∷ us) (u ∷ us) (u ∷ with_text t us)
 
 -- the set of the texts of a list
 abbrev pub set_of : List (List ℕ) → TextSet
@@ -48,17 +49,21 @@ AreTextsAt texts [] [] = Unit {0}
 AreTextsAt texts (n ∷ ns) (t ∷ s) = (slice_get texts n ≡ Some t) × AreTextsAt texts ns s
 AreTextsAt texts ns s = ⊥
 
+-- the set of this number
+abbrev pub HasKind : List (List ℕ × TextSet) → ℕ → TextSet → Type 0
+HasKind sets k s = (numbers : List ℕ) × (slice_get sets k ≡ Some (numbers, s))
+
 -- each run has the set of its number
 abbrev pub HaveKinds : List (List ℕ × TextSet) → List FrozenRun → List ℕ → Type 0
 HaveKinds sets [] [] = Unit {0}
-HaveKinds sets (r ∷ rs) (k ∷ ks) = ((numbers : List ℕ) × (slice_get sets k ≡ Some (numbers, r.set))) × HaveKinds sets rs ks
+HaveKinds sets (r ∷ rs) (k ∷ ks) = HasKind sets k r.set × HaveKinds sets rs ks
 HaveKinds sets rs ks = ⊥
 
--- what every list of marks keeps
-pub record IsTable (runs : List FrozenRun) (kinds : List ℕ) (sets : List (List ℕ × TextSet)) (texts : List (List ℕ)) (len : ℕ) : Type 0 where
-  pub maximal : AreMaximal (map run_of runs)
-  pub kinds_are : HaveKinds sets runs kinds
-  pub sets_are : Each (λ e. AreTextsAt texts e.0 e.1 × IsTextSet e.1) sets
-  pub texts_are : Each IsPolicyText texts
-  pub total : sum_by (λ r. r.0) (map run_of runs) ≡ len
-  pub count : len < 2 ^ 64
+-- what a table keeps
+pub record IsTable (t : Table) : Type 0 where
+  pub maximal : AreMaximal (map run_of t.runs.items)
+  pub kinds_are : HaveKinds t.sets.entries t.runs.items t.kinds.items
+  pub sets_are : Each (λ e. AreTextsAt t.texts.keys e.0 e.1 × IsTextSet e.1) t.sets.entries
+  pub texts_are : Each IsPolicyText t.texts.keys
+  pub total : sum_by (λ r. r.0) (map run_of t.runs.items) ≡ t.len
+  pub count : t.len < 2 ^ 64

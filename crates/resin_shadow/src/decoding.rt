@@ -6,6 +6,7 @@ use crate::encoding::{encode, encode_first};
 use crate::lists::FrozenList;
 use crate::numbers::Numbers;
 use crate::runs::FrozenRuns;
+use crate::table::Table;
 use resin_bytes::Bytes;
 use resin_frozen::{Frozen, Rest, Stop, number};
 use std::alloc::{AllocError, Global};
@@ -81,34 +82,34 @@ fn read(alloc: Global, rest: &mut Rest<'_>) -> Result<(Version, FrozenRuns), Sto
 }
 
 fn read_first(alloc: Global, rest: &mut Rest<'_>) -> Result<FrozenRuns, Stop> {
-    let policies = rest.natural(b' ')?;
+    let count_of_policies = rest.natural(b' ')?;
     let count = rest.natural(b'\n')?;
-    let mut runs = FrozenRuns::new(alloc);
-    let table = Table::read(alloc, rest, &mut runs, policies)?;
+    let mut table = Table::new(alloc);
+    let policies = Policies::read(alloc, rest, &mut table, count_of_policies)?;
     for _ in 0..count {
         let line = rest.until(b'\n')?;
         let (len, places) = cut(line);
-        let kind = table.kind(alloc, &mut runs, places)?;
-        push(&mut runs, number(len)?, kind)?;
+        let kind = policies.kind(alloc, &mut table, places)?;
+        push(&mut table, number(len)?, kind)?;
     }
-    Ok(runs)
+    Ok(FrozenRuns { table })
 }
 
 fn read_second(alloc: Global, rest: &mut Rest<'_>) -> Result<FrozenRuns, Stop> {
-    let policies = rest.natural(b' ')?;
+    let count_of_policies = rest.natural(b' ')?;
     let sets = rest.natural(b' ')?;
     let count = rest.natural(b'\n')?;
-    let mut runs = FrozenRuns::new(alloc);
-    let table = Table::read(alloc, rest, &mut runs, policies)?;
-    let kinds = table.read_sets(alloc, rest, &mut runs, sets)?;
-    let none = table.kind(alloc, &mut runs, None)?;
+    let mut table = Table::new(alloc);
+    let policies = Policies::read(alloc, rest, &mut table, count_of_policies)?;
+    let kinds = policies.read_sets(alloc, rest, &mut table, sets)?;
+    let none = policies.kind(alloc, &mut table, None)?;
     for _ in 0..count {
         let line = rest.until(b'\n')?;
         let (len, place) = cut(line);
         let kind = kind_at(&kinds, none, place)?;
-        push(&mut runs, number(len)?, kind)?;
+        push(&mut table, number(len)?, kind)?;
     }
-    Ok(runs)
+    Ok(FrozenRuns { table })
 }
 
 // A line up to its first space, and what is behind that.
@@ -131,35 +132,35 @@ fn kind_at(kinds: &[usize], none: usize, place: Option<&[u8]>) -> Result<usize, 
 }
 
 // Puts a run last, where it isn't empty and the bytes are still as many as a number of 64 bits counts.
-fn push(runs: &mut FrozenRuns, len: u64, kind: usize) -> Result<(), Stop> {
-    if len == 0 || runs.len().checked_add(len).is_none() {
+fn push(table: &mut Table, len: u64, kind: usize) -> Result<(), Stop> {
+    if len == 0 || table.len.checked_add(len).is_none() {
         return Err(Stop::Form);
     }
-    runs.push_kind(len, kind)?;
+    table.push_kind(len, kind)?;
     Ok(())
 }
 
 // The policies of a shadow text.
 #[derive(Drop)]
-struct Table {
+struct Policies {
     policies: Vec<Frozen>,
     // For each policy how many texts come before its by their bytes.
     ranks: Vec<usize>,
 }
 
-impl Table {
+impl Policies {
     // Reads so many policy texts, each on a line and no two the same.
     fn read(
         alloc: Global,
         rest: &mut Rest<'_>,
-        runs: &mut FrozenRuns,
+        table: &mut Table,
         count: u64,
-    ) -> Result<Table, Stop> {
+    ) -> Result<Policies, Stop> {
         let mut policies = Vec::new(alloc);
         for _ in 0..count {
             let policy = Frozen::read(alloc, rest)?;
             rest.literal(b"\n")?;
-            if !runs
+            if !table
                 .texts
                 .insert(policy.clone()?)
                 .map_err(AllocError::from)?
@@ -169,7 +170,7 @@ impl Table {
             policies.push(policy).map_err(AllocError::from)?;
         }
         let ranks = ranks(alloc, &policies)?;
-        Ok(Table { policies, ranks })
+        Ok(Policies { policies, ranks })
     }
 
     // Reads so many lines of sets: the numbers of the sets.
@@ -177,14 +178,14 @@ impl Table {
         &self,
         alloc: Global,
         rest: &mut Rest<'_>,
-        runs: &mut FrozenRuns,
+        table: &mut Table,
         count: u64,
     ) -> Result<Vec<usize>, Stop> {
         let mut kinds = Vec::new(alloc);
         for _ in 0..count {
             let line = rest.until(b'\n')?;
             kinds
-                .push(self.kind(alloc, runs, Some(line))?)
+                .push(self.kind(alloc, table, Some(line))?)
                 .map_err(AllocError::from)?;
         }
         Ok(kinds)
@@ -209,12 +210,7 @@ impl Table {
     }
 
     // The number of the set with the policies at these places.
-    fn kind(
-        &self,
-        alloc: Global,
-        runs: &mut FrozenRuns,
-        places: Option<&[u8]>,
-    ) -> Result<usize, Stop> {
+    fn kind(&self, alloc: Global, table: &mut Table, places: Option<&[u8]>) -> Result<usize, Stop> {
         let ranked = match places {
             Some(places) => self.ranked(alloc, places)?,
             None => Vec::new(alloc),
@@ -227,7 +223,7 @@ impl Table {
                 set.push(policy.clone()?)?;
             }
         }
-        Ok(runs.kind_in(numbers, &set)?)
+        Ok(table.kind_in(numbers, &set)?)
     }
 }
 

@@ -21,7 +21,7 @@ pub fn encode(alloc: Global, m: &FrozenRuns) -> Result<Bytes, AllocError>
     let counts = [
         numbering.texts.items.len(),
         numbering.sets.items.len(),
-        m.runs.len(),
+        m.table.runs.len(),
     ];
     push_head(&mut text, b"resin2", &counts)?;
     push_policies(&mut text, m, &numbering)?;
@@ -44,10 +44,10 @@ pub(crate) fn encode_first(alloc: Global, m: &FrozenRuns) -> Result<Bytes, Alloc
     push_head(
         &mut text,
         b"resin1",
-        &[numbering.texts.items.len(), m.runs.len()],
+        &[numbering.texts.items.len(), m.table.runs.len()],
     )?;
     push_policies(&mut text, m, &numbering)?;
-    for (i, run) in m.runs.iter().enumerate() {
+    for (i, run) in m.table.runs.iter().enumerate() {
         push_number(&mut text, run.len)?;
         push_policies_of_run(alloc, &mut text, m, &numbering, i)?;
     }
@@ -77,7 +77,7 @@ fn push_policies(
     numbering: &Numbering,
 ) -> Result<(), AllocError> {
     for number in &numbering.texts.items {
-        if let Some(policy) = m.texts.get_index(*number) {
+        if let Some(policy) = m.table.texts.get_index(*number) {
             text.push_slice(policy.as_slice())?;
         }
         text.push(b'\n')?;
@@ -93,7 +93,7 @@ fn push_set(
     numbering: &Numbering,
     kind: usize,
 ) -> Result<(), AllocError> {
-    if let Some((numbers, _)) = m.sets.get_index(kind) {
+    if let Some((numbers, _)) = m.table.sets.get_index(kind) {
         let places = numbering.places(alloc, numbers)?;
         for (i, place) in places.iter().enumerate() {
             if i > 0 {
@@ -107,9 +107,9 @@ fn push_set(
 
 // Puts the lines of the runs last: the length, and the place of the set.
 fn push_runs(text: &mut Bytes, m: &FrozenRuns, numbering: &Numbering) -> Result<(), AllocError> {
-    for (i, run) in m.runs.iter().enumerate() {
+    for (i, run) in m.table.runs.iter().enumerate() {
         push_number(text, run.len)?;
-        let kind = m.kinds.get(i).copied().unwrap_or(0);
+        let kind = m.table.kinds.get(i).copied().unwrap_or(0);
         if let Some(place) = numbering.sets.place(kind) {
             text.push(b' ')?;
             push_number(text, place as u64)?;
@@ -127,8 +127,8 @@ fn push_policies_of_run(
     numbering: &Numbering,
     i: usize,
 ) -> Result<(), AllocError> {
-    let kind = m.kinds.get(i).copied().unwrap_or(0);
-    if let Some((numbers, _)) = m.sets.get_index(kind) {
+    let kind = m.table.kinds.get(i).copied().unwrap_or(0);
+    if let Some((numbers, _)) = m.table.sets.get_index(kind) {
         for place in &numbering.places(alloc, numbers)? {
             text.push(b' ')?;
             push_number(text, *place as u64)?;

@@ -9,9 +9,11 @@ mod lists;
 mod numbering;
 mod numbers;
 mod runs;
+mod table;
 
 pub use decoding::decode;
 pub use encoding::encode;
 pub use laws::shadow_laws;
 pub use lists::FrozenList;
-pub use runs::{FrozenRun, FrozenRuns};
+pub use runs::FrozenRuns;
+pub use table::FrozenRun;

@@ -52,11 +52,11 @@ pub(crate) struct Numbering {
 impl Numbering {
     pub(crate) fn of(alloc: Global, runs: &FrozenRuns) -> Result<Numbering, AllocError> {
         let mut numbering = Numbering {
-            texts: Met::new(alloc, runs.texts.len())?,
-            sets: Met::new(alloc, runs.sets.len())?,
+            texts: Met::new(alloc, runs.table.texts.len())?,
+            sets: Met::new(alloc, runs.table.sets.len())?,
         };
-        for kind in &runs.kinds {
-            if let Some((numbers, _)) = runs.sets.get_index(*kind) {
+        for kind in &runs.table.kinds {
+            if let Some((numbers, _)) = runs.table.sets.get_index(*kind) {
                 numbering.meet(*kind, numbers)?;
             }
         }
