@@ -1,13 +1,14 @@
 -- What a table keeps says what its marks are.
-use Rattle.std.proofs.Common.{◌≡◌, ℕ, zero, suc, ◌^◌, ◌<◌, List, [], ◌∷◌, ◌++◌, length, map, slice_get, Some, None, refl, sym, ap, subst, ◌∙◌, arith}
+use Rattle.std.proofs.Common.{◌≡◌, Bool, true, false, cond, ℕ, zero, suc, ◌^◌, ◌<◌, List, [], ◌∷◌, ◌++◌, length, map, slice_get, Some, None, refl, sym, ap, subst, ◌∙◌, arith}
 use Rattle.std.specs.Prelude.{replicate}
-use Rattle.std.specs.List.{sum_by}
+use Rattle.std.specs.List.{sum_by, list_any}
+use Rattle.indexmap.specs.IndexSet.{insert_key}
 use Rattle.resin_frozen.specs.Policies.{IsPolicyText}
 use Rattle.resin_frozen.proofs.Numbers.{from_some, none_some}
 use Rattle.resin_shadow.specs.declared.table.FrozenRun.{FrozenRun}
 use Rattle.resin_shadow.specs.declared.table.Table.{Table}
 use Rattle.resin_shadow.specs.Marks.{TextSet, IsTextSet, Marks, MarkRun, Each, AreMarks, spelled}
-use Rattle.resin_shadow.specs.Runs.{run_of, marks_of, AreTextsAt, HasKind, HaveKinds, IsTable}
+use Rattle.resin_shadow.specs.Runs.{AreMaximal, run_of, marks_of, AreTextsAt, HasKind, HaveKinds, IsTable}
 use Rattle.resin_shadow.proofs.Maximal.{length_spelled}
 
 pub each_at : {X : Type 0} (P : X → Type 0) (xs : List X) (k : ℕ) (x : X) → Each P xs → slice_get xs k ≡ Some x → P x
@@ -54,3 +55,83 @@ marks_of_table t h = record {
       (each_map (λ e. AreTextsAt t.texts.keys e.0 e.1 × IsTextSet e.1) (λ e. Each IsPolicyText e.1) t.sets.entries (λ e p. texts_hold IsPolicyText t.texts.keys e.0 e.1 h.texts_are p.0) h.sets_are) h.kinds_are);
   count = subst (λ n. n < 2 ^ 64) (sym (count_of t h)) h.count;
 }
+
+-- ---- tables that grow
+pub slice_last : {X : Type 0} (xs : List X) (x : X) → slice_get (xs ++ x ∷ []) (length xs) ≡ Some x
+slice_last [] x = refl
+slice_last (y ∷ xs) x = slice_last xs x
+
+pub slice_kept : {X : Type 0} (xs ys : List X) (n : ℕ) (x : X) → slice_get xs n ≡ Some x → slice_get (xs ++ ys) n ≡ Some x
+slice_kept [] ys n x e = absurd (none_some x e)
+slice_kept (y ∷ xs) ys zero x e = e
+slice_kept (y ∷ xs) ys (suc n) x e = slice_kept xs ys n x e
+
+-- one list begins with the other
+pub record Grows {X : Type 0} (old new : List X) : Type 0 where
+  pub more : List X
+  pub is : new ≡ old ++ more
+
+nothing_behind : {X : Type 0} (xs : List X) → xs ++ [] ≡ xs
+nothing_behind [] = refl
+nothing_behind (x ∷ xs) = ap (λ ys. x ∷ ys) (nothing_behind xs)
+
+pub grows_same : {X : Type 0} (xs : List X) → Grows xs xs
+grows_same xs = record { more = []; is = sym (nothing_behind xs) }
+
+pub grows_key : {X : Type 0} (eq : X → X → Bool) (old new : List X) (k : X) → new ≡ insert_key eq old k → Grows old new
+grows_key eq old new k e = by (list_any (eq k) old) e
+  where
+    by : (b : Bool) → new ≡ cond b old (old ++ k ∷ []) → Grows old new
+    by true e = record { more = []; is = e ∙ sym (nothing_behind old) }
+    by false e = record { more = k ∷ []; is = e }
+
+pub each_key : {X : Type 0} (P : X → Type 0) (eq : X → X → Bool) (old new : List X) (k : X) → new ≡ insert_key eq old k → Each P old → P k → Each P new
+each_key P eq old new k e h p = by (list_any (eq k) old) e
+  where
+    by : (b : Bool) → new ≡ cond b old (old ++ k ∷ []) → Each P new
+    by true e = subst (Each P) (sym e) h
+    by false e = subst (Each P) (sym e) (each-append P old (k ∷ []) h (p, tt))
+
+pub texts_kept : (old new : List (List ℕ)) (ns : List ℕ) (s : TextSet) → Grows old new → AreTextsAt old ns s → AreTextsAt new ns s
+texts_kept old new [] [] g a = tt
+texts_kept old new [] (t ∷ s) g a = absurd a
+texts_kept old new (n ∷ ns) [] g a = absurd a
+texts_kept old new (n ∷ ns) (t ∷ s) g a = (subst (λ xs. slice_get xs n ≡ Some t) (sym g.is) (slice_kept old g.more n t a.0), texts_kept old new ns s g a.1)
+
+pub texts_push : (texts : List (List ℕ)) (ns : List ℕ) (s : TextSet) (n : ℕ) (t : List ℕ) → AreTextsAt texts ns s → slice_get texts n ≡ Some t → AreTextsAt texts (ns ++ n ∷ []) (s ++ t ∷ [])
+texts_push texts [] [] n t a e = (e, tt)
+texts_push texts [] (u ∷ s) n t a e = absurd a
+texts_push texts (m ∷ ns) [] n t a e = absurd a
+texts_push texts (m ∷ ns) (u ∷ s) n t a e = (a.0, texts_push texts ns s n t a.1 e)
+
+-- numbers are those of one set
+pub one_set : (texts : List (List ℕ)) (ns : List ℕ) (s u : TextSet) → AreTextsAt texts ns s → AreTextsAt texts ns u → s ≡ u
+one_set texts [] [] [] a b = refl
+one_set texts [] [] (v ∷ u) a b = absurd b
+one_set texts [] (t ∷ s) u a b = absurd a
+one_set texts (n ∷ ns) [] u a b = absurd a
+one_set texts (n ∷ ns) (t ∷ s) [] a b = absurd b
+one_set texts (n ∷ ns) (t ∷ s) (v ∷ u) a b =
+    let same : t ≡ v = from_some t v (sym a.0 ∙ b.0) in
+    ap (λ x. x ∷ s) same ∙ ap (λ xs. v ∷ xs) (one_set texts ns s u a.1 b.1)
+
+kinds_kept : (old new : List (List ℕ × TextSet)) (rs : List FrozenRun) (ks : List ℕ) → Grows old new → HaveKinds old rs ks → HaveKinds new rs ks
+kinds_kept old new [] [] g h = tt
+kinds_kept old new [] (k ∷ ks) g h = absurd h
+kinds_kept old new (r ∷ rs) [] g h = absurd h
+kinds_kept old new (r ∷ rs) (k ∷ ks) g h = ((h.0.0, subst (λ xs. slice_get xs k ≡ Some (h.0.0, r.set)) (sym g.is) (slice_kept old g.more k (h.0.0, r.set) h.0.1)), kinds_kept old new rs ks g h.1)
+
+-- more texts, or more sets, and the same runs
+pub grown : (t u : Table) → u.runs.items ≡ t.runs.items → u.kinds.items ≡ t.kinds.items → u.len ≡ t.len → Grows t.texts.keys u.texts.keys → Grows t.sets.entries u.sets.entries
+    → Each IsPolicyText u.texts.keys → Each (λ e. AreTextsAt u.texts.keys e.0 e.1 × IsTextSet e.1) u.sets.entries → IsTable t → IsTable u
+grown t u runs kinds len texts sets policies all h = record {
+  maximal = subst (λ rs. AreMaximal (map run_of rs)) (sym runs) h.maximal;
+  kinds_are = subst (λ ks. HaveKinds u.sets.entries u.runs.items ks) (sym kinds) (subst (λ rs. HaveKinds u.sets.entries rs t.kinds.items) (sym runs) (kinds_kept t.sets.entries u.sets.entries t.runs.items t.kinds.items sets h.kinds_are));
+  sets_are = all;
+  texts_are = policies;
+  total = ap (λ rs. sum_by (λ r. r.0) (map run_of rs)) runs ∙ h.total ∙ sym len;
+  count = subst (λ n. n < 2 ^ 64) (sym len) h.count;
+}
+
+pub sets_with_texts : (old new : List (List ℕ)) (es : List (List ℕ × TextSet)) → Grows old new → Each (λ e. AreTextsAt old e.0 e.1 × IsTextSet e.1) es → Each (λ e. AreTextsAt new e.0 e.1 × IsTextSet e.1) es
+sets_with_texts old new es g h = each_map (λ e. AreTextsAt old e.0 e.1 × IsTextSet e.1) (λ e. AreTextsAt new e.0 e.1 × IsTextSet e.1) es (λ e p. (texts_kept old new e.0 e.1 g p.0, p.1)) h

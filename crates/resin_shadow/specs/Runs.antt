@@ -1,30 +1,17 @@
 -- How the policies of a text's bytes are held: maximal runs, and tables of their sets and texts.
 use Rattle.std.specs.Prelude.{◌≡◌, ◌≢◌, ℕ, ◌<◌, ◌^◌, List, [], ◌∷◌, length, map, slice_get, Some}
-use Rattle.std.specs.List.{sum_by}
+use Rattle.std.specs.List.{fold, sum_by}
+use Rattle.std.specs.BTreeSet.{insert_key}
 use Rattle.std.specs.Ordering.{nat_cmp}
-use Rattle.std.specs.declared.cmp.Ordering.{Ordering}
-use Rattle.std.specs.declared.cmp.Ordering.TheVariants.{Less, Equal, Greater}
 use Rattle.std.specs.Cmp.Lexicographic.{slice_cmp}
 use Rattle.resin_frozen.specs.Policies.{IsPolicyText}
 use Rattle.resin_shadow.specs.declared.table.FrozenRun.{FrozenRun}
 use Rattle.resin_shadow.specs.declared.table.Table.{Table}
 use Rattle.resin_shadow.specs.Marks.{TextSet, IsTextSet, Marks, MarkRun, Each, runs_of, spelled}
 
--- one of three, by an order
-abbrev pub by_order : {X : Type 0} → Ordering → X → X → X → X
-by_order Less a b c = a
-by_order Equal a b c = b
-by_order Greater a b c = c
-
--- a set with a text put into it
-abbrev pub with_text : List ℕ → TextSet → TextSet
-with_text t [] = t ∷ []
-with_text t (u ∷ us) = by_order (slice_cmp nat_cmp t u) (t ∷ u ∷ us) (u ∷ us) (u ∷ with_text t us)
-
 -- the set of the texts of a list
 abbrev pub set_of : List (List ℕ) → TextSet
-set_of [] = []
-set_of (t ∷ ts) = with_text t (set_of ts)
+set_of ts = fold (insert_key (slice_cmp nat_cmp)) [] ts
 
 abbrev pub run_of : FrozenRun → MarkRun
 run_of r = (r.len, r.set)

@@ -9,6 +9,7 @@ mod lists;
 mod numbering;
 mod numbers;
 mod runs;
+mod sets;
 mod table;
 
 pub use decoding::decode;

@@ -5,6 +5,7 @@ ghost use Rattle.resin_shadow.specs.Runs.{IsTable, AreTextsAt, HasKind, marks_of
 
 use crate::lists::FrozenList;
 use crate::numbers::Numbers;
+use crate::sets::sorted;
 use indexmap::{IndexMap, IndexSet};
 use resin_frozen::Frozen;
 use std::alloc::{AllocError, Global};
@@ -127,22 +128,4 @@ impl Table {
         self.kinds.push(kind)?;
         Ok(())
     }
-}
-
-// The texts of a list, each once, ordered by their bytes.
-fn sorted(alloc: Global, list: &FrozenList) -> Result<FrozenList, AllocError>
-    ensures { IfOk result (λ set. set ≡ set_of list.now) }
-{
-    let mut texts = Vec::with_capacity(alloc, list.as_slice().len())?;
-    for text in list.as_slice() {
-        texts.push(text.clone()?)?;
-    }
-    texts.sort_by(|a, b| a.as_slice().cmp(b.as_slice()))?;
-    let mut set = FrozenList::new(alloc);
-    for text in &texts {
-        if set.as_slice().last() != Some(text) {
-            set.push(text.clone()?)?;
-        }
-    }
-    Ok(set)
 }
