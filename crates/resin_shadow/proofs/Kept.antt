@@ -8,7 +8,7 @@ use Rattle.resin_frozen.proofs.Numbers.{from_some, none_some}
 use Rattle.resin_shadow.specs.declared.table.FrozenRun.{FrozenRun}
 use Rattle.resin_shadow.specs.declared.table.Table.{Table}
 use Rattle.resin_shadow.specs.Marks.{TextSet, IsTextSet, Marks, MarkRun, Each, AreMarks, spelled}
-use Rattle.resin_shadow.specs.Runs.{AreMaximal, run_of, marks_of, AreTextsAt, HasKind, HaveKinds, IsTable}
+use Rattle.resin_shadow.specs.Runs.{AreMaximal, run_of, marks_of, AreTextsAt, HasKind, HaveKinds, IsTable, Grows}
 use Rattle.resin_shadow.proofs.Maximal.{length_spelled}
 
 pub each_at : {X : Type 0} (P : X → Type 0) (xs : List X) (k : ℕ) (x : X) → Each P xs → slice_get xs k ≡ Some x → P x
@@ -65,11 +65,6 @@ pub slice_kept : {X : Type 0} (xs ys : List X) (n : ℕ) (x : X) → slice_get x
 slice_kept [] ys n x e = absurd (none_some x e)
 slice_kept (y ∷ xs) ys zero x e = e
 slice_kept (y ∷ xs) ys (suc n) x e = slice_kept xs ys n x e
-
--- one list begins with the other
-pub record Grows {X : Type 0} (old new : List X) : Type 0 where
-  pub more : List X
-  pub is : new ≡ old ++ more
 
 nothing_behind : {X : Type 0} (xs : List X) → xs ++ [] ≡ xs
 nothing_behind [] = refl

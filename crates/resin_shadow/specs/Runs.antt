@@ -1,5 +1,5 @@
 -- How the policies of a text's bytes are held: maximal runs, and tables of their sets and texts.
-use Rattle.std.specs.Prelude.{◌≡◌, ◌≢◌, ℕ, ◌<◌, ◌^◌, List, [], ◌∷◌, length, map, slice_get, Some}
+use Rattle.std.specs.Prelude.{◌≡◌, ◌≢◌, ℕ, ◌<◌, ◌^◌, List, [], ◌∷◌, ◌++◌, length, map, slice_get, Some}
 use Rattle.std.specs.List.{fold, sum_by}
 use Rattle.std.specs.BTreeSet.{insert_key}
 use Rattle.std.specs.Ordering.{nat_cmp}
@@ -54,3 +54,8 @@ pub record IsTable (t : Table) : Type 0 where
   pub texts_are : Each IsPolicyText t.texts.keys
   pub total : sum_by (λ r. r.0) (map run_of t.runs.items) ≡ t.len
   pub count : t.len < 2 ^ 64
+
+-- one list begins with the other
+pub record Grows {X : Type 0} (old new : List X) : Type 0 where
+  pub more : List X
+  pub is : new ≡ old ++ more

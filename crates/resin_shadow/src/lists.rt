@@ -1,15 +1,58 @@
 //! Lists of policy texts.
-ghost use Rattle.std.specs.Prelude.{◌≡◌, [], ◌∷◌, ◌++◌, OnOk, OnErr};
+ghost use Rattle.std.specs.Prelude.{◌≡◌, [], ◌∷◌, ◌++◌, OnOk, OnErr, IfOk};
 
 use resin_frozen::Frozen;
 use std::alloc::{AllocError, Global};
 use std::marker::Model;
 use std::rc::Rc;
 
+// What clones of a list share.
+#[derive(Drop)]
+pub(crate) struct Texts {
+    items: Vec<Frozen>,
+}
+
+impl Model for Texts {
+    ghost use Rattle.std.specs.Prelude.{ℕ, List};
+
+    ghost Value = { List (List ℕ) };
+
+    ghost view = { λ t. t.items.items };
+}
+
+impl Texts {
+    fn push(&mut self, item: Frozen) -> Result<(), AllocError>
+        ensures ok { OnOk result (self.new ≡ self.old ++ item ∷ []) }
+        ensures err { OnErr result (self.new ≡ self.old) }
+    {
+        self.items.push(item)?;
+        Ok(())
+    }
+
+    // A list of one text.
+    fn of(alloc: Global, item: Frozen) -> Result<Texts, AllocError>
+        ensures { IfOk result (λ texts. texts ≡ item ∷ []) }
+    {
+        let mut items = Vec::new(alloc);
+        items.push(item)?;
+        Ok(Texts { items })
+    }
+}
+
+impl Clone for Texts {
+    ghost is_clone = { λ t copy. copy ≡ t };
+
+    fn clone(&self) -> Result<Texts, AllocError> {
+        Ok(Texts {
+            items: self.items.clone()?,
+        })
+    }
+}
+
 /// A list of policy texts. Clones share the texts until one of them is written.
 #[derive(Drop)]
 pub struct FrozenList {
-    items: Option<Rc<Vec<Frozen>>>,
+    shared: Option<Rc<Texts>>,
     alloc: Global,
 }
 
@@ -21,7 +64,7 @@ impl Model for FrozenList {
     ghost use Rattle.std.specs.Prelude.{[]};
     ghost use Rattle.std.specs.Option.{option_map_or};
 
-    ghost view = { λ l. option_map_or (λ r. r.value.items) l.items [] };
+    ghost view = { λ l. option_map_or (λ r. r.value) l.shared [] };
 }
 
 impl FrozenList {
@@ -29,15 +72,18 @@ impl FrozenList {
     pub fn new(alloc: Global) -> FrozenList
         ensures { result ≡ [] }
     {
-        FrozenList { items: None, alloc }
+        FrozenList {
+            shared: None,
+            alloc,
+        }
     }
 
     /// The texts in order.
     pub fn as_slice(&self) -> &[Frozen]
         ensures { result.now ≡ self.now }
     {
-        match &self.items {
-            Some(items) => items.as_slice(),
+        match &self.shared {
+            Some(texts) => texts.items.as_slice(),
             None => &[],
         }
     }
@@ -47,18 +93,17 @@ impl FrozenList {
         ensures ok { OnOk result (self.new ≡ self.old ++ item ∷ []) }
         ensures err { OnErr result (self.new ≡ self.old) }
     {
-        match &mut self.items {
-            Some(items) => {
-                let items = Rc::make_mut(items)?;
-                items.push(item)?;
+        match &mut self.shared {
+            Some(shared) => {
+                let texts = Rc::make_mut(shared)?;
+                texts.push(item)
             }
             None => {
-                let mut items = Vec::new(self.alloc);
-                items.push(item)?;
-                self.items = Some(Rc::new(self.alloc, items)?);
+                let texts = Texts::of(self.alloc, item)?;
+                self.shared = Some(Rc::new(self.alloc, texts)?);
+                Ok(())
             }
         }
-        Ok(())
     }
 }
 
@@ -66,12 +111,12 @@ impl Clone for FrozenList {
     ghost is_clone = { λ l copy. copy ≡ l };
 
     fn clone(&self) -> Result<FrozenList, AllocError> {
-        let items = match &self.items {
-            Some(items) => Some(items.clone()?),
+        let shared = match &self.shared {
+            Some(shared) => Some(shared.clone()?),
             None => None,
         };
         Ok(FrozenList {
-            items,
+            shared,
             alloc: self.alloc,
         })
     }

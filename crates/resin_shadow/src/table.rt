@@ -1,7 +1,8 @@
 //! Runs, with tables of their sets and texts.
 ghost use Rattle.std.specs.Prelude.{◌≡◌, ◌<◌, ◌++◌, ◌+◌, ◌^◌, [], length, replicate, slice_get, Some, OnOk, OnErr, IfOk, ℕ, List};
 ghost use Rattle.resin_shadow.specs.Marks.{TextSet, IsTextSet};
-ghost use Rattle.resin_shadow.specs.Runs.{IsTable, AreTextsAt, HasKind, marks_of, set_of};
+ghost use Rattle.resin_shadow.specs.Runs.{IsTable, AreTextsAt, HasKind, Grows, marks_of, set_of};
+ghost use Rattle.resin_frozen.specs.Policies.{IsPolicyText};
 
 use crate::lists::FrozenList;
 use crate::numbers::Numbers;
@@ -66,10 +67,24 @@ impl Table {
     {
         let mut numbers = Numbers::new(self.alloc);
         for text in set.as_slice() {
-            let (number, _) = self.texts.insert_full(text.clone()?)?;
+            let _policy = text.as_slice();
+            let number = self.number_of(text.clone()?)?;
             numbers.push(number)?;
         }
         Ok(numbers)
+    }
+
+    // The number of a text, which stands among the texts from now on.
+    fn number_of(&mut self, text: Frozen) -> Result<usize, AllocError>
+        requires table { IsTable self.old }
+        requires policy { IsPolicyText text }
+        ensures table { IsTable self.new }
+        ensures runs { self.new.runs.items ≡ self.old.runs.items }
+        ensures grows { Grows self.old.texts.keys self.new.texts.keys }
+        ensures number { IfOk result (λ n. slice_get self.new.texts.keys n ≡ Some text) }
+    {
+        let (number, _) = self.texts.insert_full(text)?;
+        Ok(number)
     }
 
     // The number of a set, whose texts have these numbers.
