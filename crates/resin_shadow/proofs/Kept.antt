@@ -1,7 +1,12 @@
 -- What a table keeps says what its marks are.
 use Rattle.std.proofs.Common.{◌≡◌, Bool, true, false, cond, ℕ, zero, suc, ◌^◌, ◌<◌, List, [], ◌∷◌, ◌++◌, length, map, slice_get, Some, None, refl, sym, ap, subst, ◌∙◌, arith}
 use Rattle.std.specs.Prelude.{replicate}
-use Rattle.std.specs.List.{sum_by, list_any}
+use Rattle.std.specs.Prelude.{nat_eq, nat_lt}
+use Rattle.std.specs.List.{sum_by, list_any, position, position_or_len}
+use Rattle.std.specs.Map.{keys_of}
+use Rattle.std.specs.Cmp.Lexicographic.{pointwise}
+use Rattle.std.proofs.lemmas.Bool.Decides.{nat_tests}
+use Rattle.std.proofs.lemmas.Slice.Eq.{bytes_eq-Decides}
 use Rattle.indexmap.specs.IndexSet.{insert_key}
 use Rattle.resin_frozen.specs.Policies.{IsPolicyText}
 use Rattle.resin_frozen.proofs.Numbers.{from_some, none_some}
@@ -130,3 +135,42 @@ grown t u runs kinds len texts sets policies all h = record {
 
 pub sets_with_texts : (old new : List (List ℕ)) (es : List (List ℕ × TextSet)) → Grows old new → Each (λ e. AreTextsAt old e.0 e.1 × IsTextSet e.1) es → Each (λ e. AreTextsAt new e.0 e.1 × IsTextSet e.1) es
 sets_with_texts old new es g h = each_map (λ e. AreTextsAt old e.0 e.1 × IsTextSet e.1) (λ e. AreTextsAt new e.0 e.1 × IsTextSet e.1) es (λ e p. (texts_kept old new e.0 e.1 g p.0, p.1)) h
+
+-- ---- look-ups
+first_of : {X : Type 0} (p : X → Bool) (xs : List X) → position_or_len p xs < length xs → (x : X) × (slice_get xs (position_or_len p xs) ≡ Some x) × (p x ≡ true)
+first_of p [] h = absurd (omega arith)
+first_of {X = X} p (x ∷ xs) h = by (p x) refl
+  where
+    by : (b : Bool) → p x ≡ b → (y : X) × (slice_get (x ∷ xs) (position_or_len p (x ∷ xs)) ≡ Some y) × (p y ≡ true)
+    by true e = (x, ap (λ c. slice_get (x ∷ xs) (cond c 0 (suc (position_or_len p xs)))) e, e)
+    by false e =
+        let lt : position_or_len p xs < length xs = let k : cond false 0 (suc (position_or_len p xs)) < suc (length xs) = subst (λ c. cond c 0 (suc (position_or_len p xs)) < suc (length xs)) e h in omega arith in
+        let w = first_of p xs lt in
+        (w.0, ap (λ c. slice_get (x ∷ xs) (cond c 0 (suc (position_or_len p xs)))) e ∙ w.1, w.2)
+
+-- the item at the place that is found passes
+pub placed : {X : Type 0} (p : X → Bool) (xs : List X) (i : ℕ) → Some i ≡ position p xs → (x : X) × (slice_get xs i ≡ Some x) × (p x ≡ true)
+placed {X = X} p xs i e = by (nat_lt (position_or_len p xs) (length xs)) refl e
+  where
+    by : (b : Bool) → nat_lt (position_or_len p xs) (length xs) ≡ b → Some i ≡ cond b (Some (position_or_len p xs)) None → (x : X) × (slice_get xs i ≡ Some x) × (p x ≡ true)
+    by true t e =
+        let lt : position_or_len p xs < length xs = grind (arith, nat_tests) in
+        let w = first_of p xs lt in
+        (w.0, ap (slice_get xs) (from_some i (position_or_len p xs) e) ∙ w.1, w.2)
+    by false t e = absurd (none_some i (sym e))
+
+entry_of : {K V : Type 0} (es : List (K × V)) (i : ℕ) (k : K) → slice_get (keys_of es) i ≡ Some k → (v : V) × (slice_get es i ≡ Some (k, v))
+entry_of [] i k e = absurd (none_some k e)
+entry_of (x ∷ es) zero k e = (x.1, ap (λ j. Some (j, x.1)) (from_some x.0 k e))
+entry_of (x ∷ es) (suc i) k e = entry_of es i k e
+
+-- the set at the place where its numbers are found
+pub found_kind : (texts : List (List ℕ)) (es : List (List ℕ × TextSet)) (ns : List ℕ) (s : TextSet) (i : ℕ) → Each (λ e. AreTextsAt texts e.0 e.1 × IsTextSet e.1) es → AreTextsAt texts ns s
+    → Some i ≡ position (pointwise nat_eq ns) (keys_of es) → HasKind es i s
+found_kind texts es ns s i all a e =
+    let w = placed (pointwise nat_eq ns) (keys_of es) i e in
+    let same : w.0 ≡ ns = sym ((bytes_eq-Decides ns w.0).0 w.2) in
+    let v = entry_of es i w.0 w.1 in
+    let there = each_at (λ e. AreTextsAt texts e.0 e.1 × IsTextSet e.1) es i (w.0, v.0) all v.1 in
+    let set : v.0 ≡ s = one_set texts ns v.0 s (subst (λ ms. AreTextsAt texts ms v.0) same there.0) a in
+    (w.0, v.1 ∙ ap (λ u. Some (w.0, u)) set)
