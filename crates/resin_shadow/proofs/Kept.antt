@@ -1,19 +1,18 @@
 -- What a table keeps says what its marks are.
-use Rattle.std.proofs.Common.{◌≡◌, Bool, true, false, cond, ℕ, zero, suc, ◌^◌, ◌<◌, List, [], ◌∷◌, ◌++◌, length, map, slice_get, Some, None, refl, sym, ap, subst, ◌∙◌, arith}
-use Rattle.std.specs.Prelude.{replicate}
-use Rattle.std.specs.Prelude.{nat_eq, nat_lt}
-use Rattle.std.specs.List.{sum_by, list_any, position, position_or_len}
-use Rattle.std.specs.Map.{keys_of}
-use Rattle.std.specs.Cmp.Lexicographic.{pointwise}
-use Rattle.std.proofs.lemmas.Bool.Decides.{nat_tests}
+use Rattle.std.proofs.Common.{◌≡◌, ◌≢◌, Bool, true, false, cond, ℕ, zero, suc, ◌^◌, ◌<◌, ◌+◌, List, [], ◌∷◌, ◌++◌, length, map, slice_get, get_or, Some, None, refl, sym, ap, subst, ◌∙◌, arith}
+use Rattle.std.specs.Prelude.{replicate, nat_eq, Decides}
+use Rattle.std.specs.List.{sum_by, list_any, IsDistinct, AllByRecursion}
+use Rattle.std.specs.Str.{bytes_eq}
+use Rattle.std.proofs.lemmas.Bool.{false_from_ne_true, true≢false}
 use Rattle.std.proofs.lemmas.Slice.Eq.{bytes_eq-Decides}
 use Rattle.indexmap.specs.IndexSet.{insert_key}
 use Rattle.resin_frozen.specs.Policies.{IsPolicyText}
 use Rattle.resin_frozen.proofs.Numbers.{from_some, none_some}
 use Rattle.resin_shadow.specs.declared.table.FrozenRun.{FrozenRun}
+use Rattle.resin_shadow.specs.declared.table.Kind.{Kind}
 use Rattle.resin_shadow.specs.declared.table.Table.{Table}
 use Rattle.resin_shadow.specs.Marks.{TextSet, IsTextSet, Marks, MarkRun, Each, AreMarks, spelled}
-use Rattle.resin_shadow.specs.Runs.{AreMaximal, run_of, marks_of, AreTextsAt, HasKind, HaveKinds, IsTable, Grows}
+use Rattle.resin_shadow.specs.Runs.{AreMaximal, run_of, marks_of, Related, HasNumber, AreTextsAt, HasKind, IsKind, IsKindOf, IsTable, Grows, Stays}
 use Rattle.resin_shadow.proofs.Maximal.{length_spelled}
 
 pub each_at : {X : Type 0} (P : X → Type 0) (xs : List X) (k : ℕ) (x : X) → Each P xs → slice_get xs k ≡ Some x → P x
@@ -33,31 +32,32 @@ each_spelled : (P : TextSet → Type 0) (rs : List MarkRun) → Each (λ r. P r.
 each_spelled P [] h = tt
 each_spelled P (r ∷ rs) h = each-append P (replicate r.0 r.1) (spelled rs) (each_same P r.0 r.1 h.0) (each_spelled P rs h.1)
 
+pub each_map : {X : Type 0} (P Q : X → Type 0) (xs : List X) → ((x : X) → P x → Q x) → Each P xs → Each Q xs
+each_map P Q [] f h = tt
+each_map P Q (x ∷ xs) f h = (f x h.0, each_map P Q xs f h.1)
+
+each_under : {X Y : Type 0} (f : X → Y) (P : Y → Type 0) (xs : List X) → Each (λ x. P (f x)) xs → Each P (map f xs)
+each_under f P [] h = tt
+each_under f P (x ∷ xs) h = (h.0, each_under f P xs h.1)
+
 texts_hold : (P : List ℕ → Type 0) (texts : List (List ℕ)) (ns : List ℕ) (s : TextSet) → Each P texts → AreTextsAt texts ns s → Each P s
 texts_hold P texts [] [] h a = tt
 texts_hold P texts [] (t ∷ s) h a = absurd a
 texts_hold P texts (n ∷ ns) [] h a = absurd a
 texts_hold P texts (n ∷ ns) (t ∷ s) h a = (each_at P texts n t h a.0, texts_hold P texts ns s h a.1)
 
--- what holds of each set of the table holds of the set of each run
-runs_hold : (P : TextSet → Type 0) (sets : List (List ℕ × TextSet)) (rs : List FrozenRun) (ks : List ℕ) → Each (λ e. P e.1) sets → HaveKinds sets rs ks → Each (λ r. P r.1) (map run_of rs)
-runs_hold P sets [] [] h k = tt
-runs_hold P sets [] (n ∷ ks) h k = absurd k
-runs_hold P sets (r ∷ rs) [] h k = absurd k
-runs_hold P sets (r ∷ rs) (n ∷ ks) h k = (each_at (λ e. P e.1) sets n (k.0.0, r.set) h k.0.1, runs_hold P sets rs ks h k.1)
-
-each_map : {X : Type 0} (P Q : X → Type 0) (xs : List X) → ((x : X) → P x → Q x) → Each P xs → Each Q xs
-each_map P Q [] f h = tt
-each_map P Q (x ∷ xs) f h = (f x h.0, each_map P Q xs f h.1)
-
 pub count_of : (t : Table) → IsTable t → length (marks_of t.runs.items) ≡ t.len
 count_of t h = length_spelled (map run_of t.runs.items) ∙ h.total
 
+-- what holds of the set of each run holds of the set of each byte
+runs_hold : (P : TextSet → Type 0) (rs : List FrozenRun) → Each (λ r. P r.set) rs → Each P (marks_of rs)
+runs_hold P rs h = each_spelled P (map run_of rs) (each_under run_of (λ r. P r.1) rs h)
+
 pub marks_of_table : (t : Table) → IsTable t → AreMarks (marks_of t.runs.items)
 marks_of_table t h = record {
-  sets = each_spelled IsTextSet (map run_of t.runs.items) (runs_hold IsTextSet t.sets.entries t.runs.items t.kinds.items (each_map (λ e. AreTextsAt t.texts.keys e.0 e.1 × IsTextSet e.1) (λ e. IsTextSet e.1) t.sets.entries (λ e p. p.1) h.sets_are) h.kinds_are);
-  policies = each_spelled (Each IsPolicyText) (map run_of t.runs.items) (runs_hold (Each IsPolicyText) t.sets.entries t.runs.items t.kinds.items
-      (each_map (λ e. AreTextsAt t.texts.keys e.0 e.1 × IsTextSet e.1) (λ e. Each IsPolicyText e.1) t.sets.entries (λ e p. texts_hold IsPolicyText t.texts.keys e.0 e.1 h.texts_are p.0) h.sets_are) h.kinds_are);
+  sets = runs_hold IsTextSet t.runs.items (each_map (λ r. IsKind t r.kind r.set) (λ r. IsTextSet r.set) t.runs.items (λ r p. p.1) h.kinds_are);
+  policies = runs_hold (Each IsPolicyText) t.runs.items
+      (each_map (λ r. IsKind t r.kind r.set) (λ r. Each IsPolicyText r.set) t.runs.items (λ r p. texts_hold IsPolicyText t.texts.keys p.0.0 r.set h.texts_are p.0.2) h.kinds_are);
   count = subst (λ n. n < 2 ^ 64) (sym (count_of t h)) h.count;
 }
 
@@ -71,18 +71,28 @@ slice_kept [] ys n x e = absurd (none_some x e)
 slice_kept (y ∷ xs) ys zero x e = e
 slice_kept (y ∷ xs) ys (suc n) x e = slice_kept xs ys n x e
 
-nothing_behind : {X : Type 0} (xs : List X) → xs ++ [] ≡ xs
+pub slice_grown : {X : Type 0} (old new : List X) (n : ℕ) (x : X) → Grows old new → slice_get old n ≡ Some x → slice_get new n ≡ Some x
+slice_grown old new n x g e = subst (λ xs. slice_get xs n ≡ Some x) (sym g.is) (slice_kept old g.more n x e)
+
+pub nothing_behind : {X : Type 0} (xs : List X) → xs ++ [] ≡ xs
 nothing_behind [] = refl
 nothing_behind (x ∷ xs) = ap (λ ys. x ∷ ys) (nothing_behind xs)
 
-pub grows_same : {X : Type 0} (xs : List X) → Grows xs xs
-grows_same xs = record { more = []; is = sym (nothing_behind xs) }
+joined : {X : Type 0} (xs ys zs : List X) → (xs ++ ys) ++ zs ≡ xs ++ (ys ++ zs)
+joined [] ys zs = refl
+joined (x ∷ xs) ys zs = ap (λ v. x ∷ v) (joined xs ys zs)
+
+pub grows_same : {X : Type 0} (xs ys : List X) → ys ≡ xs → Grows xs ys
+grows_same xs ys e = record { more = []; is = e ∙ sym (nothing_behind xs) }
+
+pub grows_more : {X : Type 0} (xs ys zs : List X) → Grows xs ys → Grows ys zs → Grows xs zs
+grows_more xs ys zs g h = record { more = g.more ++ h.more; is = h.is ∙ ap (λ v. v ++ h.more) g.is ∙ joined xs g.more h.more }
 
 pub grows_key : {X : Type 0} (eq : X → X → Bool) (old new : List X) (k : X) → new ≡ insert_key eq old k → Grows old new
 grows_key eq old new k e = by (list_any (eq k) old) e
   where
     by : (b : Bool) → new ≡ cond b old (old ++ k ∷ []) → Grows old new
-    by true e = record { more = []; is = e ∙ sym (nothing_behind old) }
+    by true e = grows_same old new e
     by false e = record { more = k ∷ []; is = e }
 
 pub each_key : {X : Type 0} (P : X → Type 0) (eq : X → X → Bool) (old new : List X) (k : X) → new ≡ insert_key eq old k → Each P old → P k → Each P new
@@ -92,17 +102,53 @@ each_key P eq old new k e h p = by (list_any (eq k) old) e
     by true e = subst (Each P) (sym e) h
     by false e = subst (Each P) (sym e) (each-append P old (k ∷ []) h (p, tt))
 
-pub texts_kept : (old new : List (List ℕ)) (ns : List ℕ) (s : TextSet) → Grows old new → AreTextsAt old ns s → AreTextsAt new ns s
-texts_kept old new [] [] g a = tt
-texts_kept old new [] (t ∷ s) g a = absurd a
-texts_kept old new (n ∷ ns) [] g a = absurd a
-texts_kept old new (n ∷ ns) (t ∷ s) g a = (subst (λ xs. slice_get xs n ≡ Some t) (sym g.is) (slice_kept old g.more n t a.0), texts_kept old new ns s g a.1)
+pub related_map : {A B : Type 0} (R S : A → B → Type 0) (xs : List A) (ys : List B) → ((x : A) (y : B) → R x y → S x y) → Related R xs ys → Related S xs ys
+related_map R S [] [] f h = tt
+related_map R S [] (y ∷ ys) f h = absurd h
+related_map R S (x ∷ xs) [] f h = absurd h
+related_map R S (x ∷ xs) (y ∷ ys) f h = (f x y h.0, related_map R S xs ys f h.1)
 
-pub texts_push : (texts : List (List ℕ)) (ns : List ℕ) (s : TextSet) (n : ℕ) (t : List ℕ) → AreTextsAt texts ns s → slice_get texts n ≡ Some t → AreTextsAt texts (ns ++ n ∷ []) (s ++ t ∷ [])
-texts_push texts [] [] n t a e = (e, tt)
-texts_push texts [] (u ∷ s) n t a e = absurd a
-texts_push texts (m ∷ ns) [] n t a e = absurd a
-texts_push texts (m ∷ ns) (u ∷ s) n t a e = (a.0, texts_push texts ns s n t a.1 e)
+pub related_push : {A B : Type 0} (R : A → B → Type 0) (xs : List A) (ys : List B) (x : A) (y : B) → Related R xs ys → R x y → Related R (xs ++ x ∷ []) (ys ++ y ∷ [])
+related_push R [] [] x y h r = (r, tt)
+related_push R [] (v ∷ ys) x y h r = absurd h
+related_push R (u ∷ xs) [] x y h r = absurd h
+related_push R (u ∷ xs) (v ∷ ys) x y h r = (h.0, related_push R xs ys x y h.1 r)
+
+pub texts_kept : (old new : List (List ℕ)) (ns : List ℕ) (s : TextSet) → Grows old new → AreTextsAt old ns s → AreTextsAt new ns s
+texts_kept old new ns s g a = related_map (HasNumber old) (HasNumber new) ns s (λ n t e. slice_grown old new n t g e) a
+
+pub kind_kept : (t u : Table) (k : ℕ) (s : TextSet) → Stays t u → IsKind t k s → IsKind u k s
+kind_kept t u k s g h = ((h.0.0, slice_grown t.sets.keys u.sets.keys k h.0.0 g.sets h.0.1, texts_kept t.texts.keys u.texts.keys h.0.0 s g.texts h.0.2), h.1)
+
+pub kinds_kept : (t u : Table) (ks : List Kind) → Stays t u → Each (IsKindOf t) ks → Each (IsKindOf u) ks
+kinds_kept t u ks g h = each_map (IsKindOf t) (IsKindOf u) ks (λ k p. kind_kept t u k.number k.set g p) h
+
+pub stays_same : (t u : Table) → u.runs.items ≡ t.runs.items → u.len ≡ t.len → u.sets.keys ≡ t.sets.keys → u.texts.keys ≡ t.texts.keys → Stays t u
+stays_same t u r l s x = record { runs = r; len = l; sets = grows_same _ _ s; texts = grows_same _ _ x }
+
+pub stays_more : (t u w : Table) → Stays t u → Stays u w → Stays t w
+stays_more t u w g h = record {
+  runs = h.runs ∙ g.runs;
+  len = h.len ∙ g.len;
+  sets = grows_more t.sets.keys u.sets.keys w.sets.keys g.sets h.sets;
+  texts = grows_more t.texts.keys u.texts.keys w.texts.keys g.texts h.texts;
+}
+
+-- more texts, or more sets, and the same runs
+pub staying : (t u : Table) → Stays t u → Each IsPolicyText u.texts.keys → IsDistinct bytes_eq u.texts.keys → IsDistinct bytes_eq u.sets.keys → IsTable t → IsTable u
+staying t u g policies texts sets h = record {
+  maximal = subst (λ rs. AreMaximal (map run_of rs)) (sym g.runs) h.maximal;
+  kinds_are = subst (Each (λ r. IsKind u r.kind r.set)) (sym g.runs) (each_map (λ r. IsKind t r.kind r.set) (λ r. IsKind u r.kind r.set) t.runs.items (λ r p. kind_kept t u r.kind r.set g p) h.kinds_are);
+  texts_are = policies;
+  texts_apart = texts;
+  sets_apart = sets;
+  total = ap (λ rs. sum_by (λ r. r.0) (map run_of rs)) g.runs ∙ h.total ∙ sym g.len;
+  count = subst (λ n. n < 2 ^ 64) (sym g.len) h.count;
+}
+
+-- ---- numbers and what they stand for
+pub one_text : (texts : List (List ℕ)) (n : ℕ) (t u : List ℕ) → HasNumber texts n t → HasNumber texts n u → t ≡ u
+one_text texts n t u a b = from_some t u (sym a ∙ b)
 
 -- numbers are those of one set
 pub one_set : (texts : List (List ℕ)) (ns : List ℕ) (s u : TextSet) → AreTextsAt texts ns s → AreTextsAt texts ns u → s ≡ u
@@ -111,66 +157,37 @@ one_set texts [] [] (v ∷ u) a b = absurd b
 one_set texts [] (t ∷ s) u a b = absurd a
 one_set texts (n ∷ ns) [] u a b = absurd a
 one_set texts (n ∷ ns) (t ∷ s) [] a b = absurd b
-one_set texts (n ∷ ns) (t ∷ s) (v ∷ u) a b =
-    let same : t ≡ v = from_some t v (sym a.0 ∙ b.0) in
-    ap (λ x. x ∷ s) same ∙ ap (λ xs. v ∷ xs) (one_set texts ns s u a.1 b.1)
+one_set texts (n ∷ ns) (t ∷ s) (v ∷ u) a b = ap (λ x. x ∷ s) (one_text texts n t v a.0 b.0) ∙ ap (λ xs. v ∷ xs) (one_set texts ns s u a.1 b.1)
 
-kinds_kept : (old new : List (List ℕ × TextSet)) (rs : List FrozenRun) (ks : List ℕ) → Grows old new → HaveKinds old rs ks → HaveKinds new rs ks
-kinds_kept old new [] [] g h = tt
-kinds_kept old new [] (k ∷ ks) g h = absurd h
-kinds_kept old new (r ∷ rs) [] g h = absurd h
-kinds_kept old new (r ∷ rs) (k ∷ ks) g h = ((h.0.0, subst (λ xs. slice_get xs k ≡ Some (h.0.0, r.set)) (sym g.is) (slice_kept old g.more k (h.0.0, r.set) h.0.1)), kinds_kept old new rs ks g h.1)
+-- an item that differs from all of a list isn't in it
+elsewhere : (x : List ℕ) (xs : List (List ℕ)) (n : ℕ) → AllByRecursion (λ y. bytes_eq x y ≡ false) xs → HasNumber xs n x → ⊥
+elsewhere x [] n h e = none_some x e
+elsewhere x (y ∷ xs) zero h e = true≢false (sym ((bytes_eq-Decides x y).1 (sym (from_some y x e))) ∙ h.0)
+elsewhere x (y ∷ xs) (suc n) h e = elsewhere x xs n h.1 e
 
--- more texts, or more sets, and the same runs
-pub grown : (t u : Table) → u.runs.items ≡ t.runs.items → u.kinds.items ≡ t.kinds.items → u.len ≡ t.len → Grows t.texts.keys u.texts.keys → Grows t.sets.entries u.sets.entries
-    → Each IsPolicyText u.texts.keys → Each (λ e. AreTextsAt u.texts.keys e.0 e.1 × IsTextSet e.1) u.sets.entries → IsTable t → IsTable u
-grown t u runs kinds len texts sets policies all h = record {
-  maximal = subst (λ rs. AreMaximal (map run_of rs)) (sym runs) h.maximal;
-  kinds_are = subst (λ ks. HaveKinds u.sets.entries u.runs.items ks) (sym kinds) (subst (λ rs. HaveKinds u.sets.entries rs t.kinds.items) (sym runs) (kinds_kept t.sets.entries u.sets.entries t.runs.items t.kinds.items sets h.kinds_are));
-  sets_are = all;
-  texts_are = policies;
-  total = ap (λ rs. sum_by (λ r. r.0) (map run_of rs)) runs ∙ h.total ∙ sym len;
-  count = subst (λ n. n < 2 ^ 64) (sym len) h.count;
-}
+-- a list without repeats has a text at one place
+pub one_number : (texts : List (List ℕ)) (n m : ℕ) (t : List ℕ) → IsDistinct bytes_eq texts → HasNumber texts n t → HasNumber texts m t → n ≡ m
+unfolding IsDistinct
+one_number [] n m t d a b = absurd (none_some t a)
+one_number (x ∷ xs) zero zero t d a b = refl
+one_number (x ∷ xs) zero (suc m) t d a b = absurd (elsewhere x xs m d.0 (b ∙ sym a))
+one_number (x ∷ xs) (suc n) zero t d a b = absurd (elsewhere x xs n d.0 (a ∙ sym b))
+one_number (x ∷ xs) (suc n) (suc m) t d a b = ap suc (one_number xs n m t d.1 a b)
 
-pub sets_with_texts : (old new : List (List ℕ)) (es : List (List ℕ × TextSet)) → Grows old new → Each (λ e. AreTextsAt old e.0 e.1 × IsTextSet e.1) es → Each (λ e. AreTextsAt new e.0 e.1 × IsTextSet e.1) es
-sets_with_texts old new es g h = each_map (λ e. AreTextsAt old e.0 e.1 × IsTextSet e.1) (λ e. AreTextsAt new e.0 e.1 × IsTextSet e.1) es (λ e p. (texts_kept old new e.0 e.1 g p.0, p.1)) h
+one_list : (texts : List (List ℕ)) (ns ms : List ℕ) (s : TextSet) → IsDistinct bytes_eq texts → AreTextsAt texts ns s → AreTextsAt texts ms s → ns ≡ ms
+one_list texts [] [] [] d a b = refl
+one_list texts [] (m ∷ ms) [] d a b = absurd b
+one_list texts (n ∷ ns) ms [] d a b = absurd a
+one_list texts [] ms (t ∷ s) d a b = absurd a
+one_list texts (n ∷ ns) [] (t ∷ s) d a b = absurd b
+one_list texts (n ∷ ns) (m ∷ ms) (t ∷ s) d a b = ap (λ x. x ∷ ns) (one_number texts n m t d a.0 b.0) ∙ ap (λ xs. m ∷ xs) (one_list texts ns ms s d a.1 b.1)
 
--- ---- look-ups
-first_of : {X : Type 0} (p : X → Bool) (xs : List X) → position_or_len p xs < length xs → (x : X) × (slice_get xs (position_or_len p xs) ≡ Some x) × (p x ≡ true)
-first_of p [] h = absurd (omega arith)
-first_of {X = X} p (x ∷ xs) h = by (p x) refl
-  where
-    by : (b : Bool) → p x ≡ b → (y : X) × (slice_get (x ∷ xs) (position_or_len p (x ∷ xs)) ≡ Some y) × (p y ≡ true)
-    by true e = (x, ap (λ c. slice_get (x ∷ xs) (cond c 0 (suc (position_or_len p xs)))) e, e)
-    by false e =
-        let lt : position_or_len p xs < length xs = let k : cond false 0 (suc (position_or_len p xs)) < suc (length xs) = subst (λ c. cond c 0 (suc (position_or_len p xs)) < suc (length xs)) e h in omega arith in
-        let w = first_of p xs lt in
-        (w.0, ap (λ c. slice_get (x ∷ xs) (cond c 0 (suc (position_or_len p xs)))) e ∙ w.1, w.2)
+pub kind_set : (sets texts : List (List ℕ)) (k l : ℕ) (s u : TextSet) → HasKind sets texts k s → HasKind sets texts l u → k ≡ l → s ≡ u
+kind_set sets texts k l s u a b e =
+    let ns : a.0 ≡ b.0 = from_some a.0 b.0 (sym a.1 ∙ ap (slice_get sets) e ∙ b.1) in
+    one_set texts a.0 s u a.2 (subst (λ ms. AreTextsAt texts ms u) (sym ns) b.2)
 
--- the item at the place that is found passes
-pub placed : {X : Type 0} (p : X → Bool) (xs : List X) (i : ℕ) → Some i ≡ position p xs → (x : X) × (slice_get xs i ≡ Some x) × (p x ≡ true)
-placed {X = X} p xs i e = by (nat_lt (position_or_len p xs) (length xs)) refl e
-  where
-    by : (b : Bool) → nat_lt (position_or_len p xs) (length xs) ≡ b → Some i ≡ cond b (Some (position_or_len p xs)) None → (x : X) × (slice_get xs i ≡ Some x) × (p x ≡ true)
-    by true t e =
-        let lt : position_or_len p xs < length xs = grind (arith, nat_tests) in
-        let w = first_of p xs lt in
-        (w.0, ap (slice_get xs) (from_some i (position_or_len p xs) e) ∙ w.1, w.2)
-    by false t e = absurd (none_some i (sym e))
-
-entry_of : {K V : Type 0} (es : List (K × V)) (i : ℕ) (k : K) → slice_get (keys_of es) i ≡ Some k → (v : V) × (slice_get es i ≡ Some (k, v))
-entry_of [] i k e = absurd (none_some k e)
-entry_of (x ∷ es) zero k e = (x.1, ap (λ j. Some (j, x.1)) (from_some x.0 k e))
-entry_of (x ∷ es) (suc i) k e = entry_of es i k e
-
--- the set at the place where its numbers are found
-pub found_kind : (texts : List (List ℕ)) (es : List (List ℕ × TextSet)) (ns : List ℕ) (s : TextSet) (i : ℕ) → Each (λ e. AreTextsAt texts e.0 e.1 × IsTextSet e.1) es → AreTextsAt texts ns s
-    → Some i ≡ position (pointwise nat_eq ns) (keys_of es) → HasKind es i s
-found_kind texts es ns s i all a e =
-    let w = placed (pointwise nat_eq ns) (keys_of es) i e in
-    let same : w.0 ≡ ns = sym ((bytes_eq-Decides ns w.0).0 w.2) in
-    let v = entry_of es i w.0 w.1 in
-    let there = each_at (λ e. AreTextsAt texts e.0 e.1 × IsTextSet e.1) es i (w.0, v.0) all v.1 in
-    let set : v.0 ≡ s = one_set texts ns v.0 s (subst (λ ms. AreTextsAt texts ms v.0) same there.0) a in
-    (w.0, v.1 ∙ ap (λ u. Some (w.0, u)) set)
+pub set_kind : (sets texts : List (List ℕ)) (k l : ℕ) (s u : TextSet) → IsDistinct bytes_eq sets → IsDistinct bytes_eq texts → HasKind sets texts k s → HasKind sets texts l u → s ≡ u → k ≡ l
+set_kind sets texts k l s u d f a b e =
+    let ns : a.0 ≡ b.0 = one_list texts a.0 b.0 u f (subst (AreTextsAt texts a.0) e a.2) b.2 in
+    one_number sets k l b.0 d (a.1 ∙ ap Some ns) b.1

@@ -1,3 +1,10 @@
 pub mod Maximal
 pub mod Kept
 pub mod Versions
+pub mod First_met
+pub mod Places
+pub mod Fronts
+pub mod Marked
+pub mod Whole
+pub mod Encoded
+pub mod Loops

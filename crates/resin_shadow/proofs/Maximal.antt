@@ -5,11 +5,12 @@ use Rattle.std.specs.List.{flat_map, sum_by}
 use Rattle.std.specs.Str.{bytes_eq}
 use Rattle.std.proofs.lemmas.Bool.{false_from_ne_true}
 use Rattle.std.proofs.lemmas.List.{length-replicate}
+use Rattle.std.proofs.lemmas.List.Sums.{sum_by-cons}
 use Rattle.std.proofs.lemmas.Slice.Eq.{slice_eq-Decides, bytes_eq-Decides}
 use Rattle.resin_shadow.specs.Marks.{TextSet, same_set, Marks, MarkRun, with_byte, runs_of, spelled}
 use Rattle.resin_shadow.specs.Runs.{AreMaximal}
 
-same_decides : (s t : TextSet) → Decides (same_set s t) (s ≡ t)
+pub same_decides : (s t : TextSet) → Decides (same_set s t) (s ≡ t)
 same_decides s t = slice_eq-Decides bytes_eq-Decides s t (same_set s t) refl
 
 pub same_itself : (s : TextSet) → same_set s s ≡ true
@@ -45,4 +46,5 @@ runs_spelled (r ∷ q ∷ rs) h = front_at r.0 r.1 (spelled (q ∷ rs)) (q ∷ r
 
 pub length_spelled : (rs : List MarkRun) → length (spelled rs) ≡ sum_by (λ r. r.0) rs
 length_spelled [] = refl
-length_spelled (r ∷ rs) = let h = length_spelled rs in let l = length-append (replicate r.0 r.1) (spelled rs) in let m = length-replicate r.0 r.1 in omega (arith, h, l, m)
+length_spelled (r ∷ rs) =
+    length-append (replicate r.0 r.1) (spelled rs) ∙ ap (λ n. n + length (spelled rs)) (length-replicate r.0 r.1) ∙ ap (λ n. r.0 + n) (length_spelled rs) ∙ sym (sum_by-cons (λ r. r.0) r rs)

@@ -1,6 +1,7 @@
 -- A text is of one version, and there is one of each.
-use Rattle.std.proofs.Common.{◌≡◌, ◌⊎◌, inl, inr, ℕ, Bool, true, false, cond, List, [], ◌∷◌, ◌++◌, slice_get, Some, None, refl, sym, ap, ◌∙◌}
+use Rattle.std.proofs.Common.{◌≡◌, ◌⊎◌, inl, inr, ℕ, Bool, true, false, cond, List, [], ◌∷◌, ◌++◌, slice_get, Some, None, refl, sym, ap, ◌∙◌, arith}
 use Rattle.std.specs.Prelude.{◌==◌, length}
+use Rattle.resin_frozen.proofs.Numbers.{from_some}
 use Rattle.resin_shadow.specs.Marks.{Marks, policies}
 use Rattle.resin_shadow.specs.Shadows.{written1, written2}
 use Rattle.resin_shadow.specs.Laws.{HasOneText, HasOneVersion}
@@ -24,7 +25,7 @@ second_or v = by (length (policies v) == 0) refl
     by false h = inr (rw h refl)
 
 differ : (x : List ℕ) → slice_get x 5 ≡ Some 49 → slice_get x 5 ≡ Some 50 → ⊥
-differ x a b = let e : Some 49 ≡ Some 50 = sym a ∙ b in cc
+differ x a b = let e : 49 ≡ 50 = from_some 49 50 (sym a ∙ b) in omega (arith, e)
 
 pub has_one_version : HasOneVersion
 has_one_version x v w a b = by (first_or v) (second_or w)

@@ -1,5 +1,7 @@
 pub mod Marks
 pub mod Shadows
 pub mod Runs
+pub mod Printed
+pub mod Readers
 pub mod Answers
 pub mod Laws

@@ -8,6 +8,7 @@ mod laws;
 mod lists;
 mod numbering;
 mod numbers;
+mod reading;
 mod runs;
 mod sets;
 mod table;

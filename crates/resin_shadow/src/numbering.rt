@@ -1,92 +1,94 @@
-//! The order in which policies and sets stand in a shadow text.
+//! The order in which sets and policies stand in a shadow text.
+ghost use Rattle.std.specs.Prelude.{◌≡◌, nat_eq, fold, OnOk, IfOk};
+ghost use Rattle.std.specs.List.{IsDistinct};
+ghost use Rattle.std.specs.BTreeSet.{insert_key};
+ghost use Rattle.std.specs.Ordering.{nat_cmp};
+ghost use Rattle.resin_shadow.specs.Shadows.{place};
+ghost use Rattle.resin_shadow.specs.Printed.{with_number, sets_met, texts_met, rising};
+
 use crate::numbers::Numbers;
-use crate::runs::FrozenRuns;
+use crate::table::Table;
+use indexmap::IndexSet;
 use std::alloc::{AllocError, Global};
+use std::collections::BTreeSet;
 
-/// Items by the order in which they are first met: which they are, and the place of each.
-#[derive(Drop)]
-pub(crate) struct Met {
-    pub(crate) items: Vec<usize>,
-    // For each item its place and one, 0 where it wasn't met.
-    places: Vec<usize>,
+/// The sets that have a policy, by the first byte that has the set.
+pub(crate) fn sets_of(alloc: Global, table: &Table) -> Result<IndexSet<usize>, AllocError>
+    ensures { IfOk result (λ met. met.keys ≡ sets_met table.now.runs.items) }
+{
+    let mut met = IndexSet::new(alloc);
+    for run in &table.runs {
+        if !run.set.as_slice().is_empty() {
+            met.insert(run.kind)?;
+        }
+    }
+    Ok(met)
 }
 
-impl Met {
-    fn new(alloc: Global, count: usize) -> Result<Met, AllocError> {
-        let mut places = Vec::with_capacity(alloc, count)?;
-        places.resize(count, 0)?;
-        Ok(Met {
-            items: Vec::new(alloc),
-            places,
-        })
-    }
-
-    // The place of an item, none where it wasn't met.
-    pub(crate) fn place(&self, item: usize) -> Option<usize> {
-        match self.places.get(item) {
-            Some(place) if *place > 0 => Some(*place - 1),
-            _ => None,
+/// The policies of these sets, by the first byte that carries them and by their bytes.
+pub(crate) fn texts_of(
+    alloc: Global,
+    table: &Table,
+    sets: &IndexSet<usize>,
+) -> Result<IndexSet<usize>, AllocError>
+    ensures { IfOk result (λ met. met.keys ≡ texts_met table.now.sets.keys sets.now.keys) }
+{
+    let mut met = IndexSet::new(alloc);
+    for kind in sets.as_slice() {
+        if let Some(numbers) = table.sets.get_index(*kind) {
+            meet(&mut met, numbers)?;
         }
     }
-
-    // Meets an item, and tells whether it is for the first time.
-    fn meet(&mut self, item: usize) -> Result<bool, AllocError> {
-        if self.place(item).is_some() {
-            return Ok(false);
-        }
-        self.items.push(item)?;
-        if let Some(place) = self.places.get_mut(item) {
-            *place = self.items.len();
-        }
-        Ok(true)
-    }
+    Ok(met)
 }
 
-/// The policies and the sets of runs, by the first byte that carries them.
-#[derive(Drop)]
-pub(crate) struct Numbering {
-    pub(crate) texts: Met,
-    pub(crate) sets: Met,
+// Meets numbers.
+fn meet(met: &mut IndexSet<usize>, numbers: &Numbers) -> Result<(), AllocError>
+    ensures { OnOk result (met.new.keys ≡ fold with_number met.old.keys numbers.now) }
+{
+    for number in numbers.as_slice() {
+        met.insert(*number)?;
+    }
+    Ok(())
 }
 
-impl Numbering {
-    pub(crate) fn of(alloc: Global, runs: &FrozenRuns) -> Result<Numbering, AllocError> {
-        let mut numbering = Numbering {
-            texts: Met::new(alloc, runs.table.texts.len())?,
-            sets: Met::new(alloc, runs.table.sets.len())?,
-        };
-        for kind in &runs.table.kinds {
-            if let Some((numbers, _)) = runs.table.sets.get_index(*kind) {
-                numbering.meet(*kind, numbers)?;
-            }
-        }
-        Ok(numbering)
+/// The places of numbers among those that were met, rising.
+pub(crate) fn places(
+    alloc: Global,
+    met: &IndexSet<usize>,
+    numbers: &Numbers,
+) -> Result<Vec<u64>, AllocError>
+    ensures { IfOk result (λ places. places.items ≡ rising met.now.keys numbers.now) }
+{
+    let set = placed(alloc, met, numbers)?;
+    let mut places = Vec::new(alloc);
+    for place in &set {
+        places.push(*place)?;
     }
+    Ok(places)
+}
 
-    // Meets the set of a run.
-    fn meet(&mut self, kind: usize, numbers: &Numbers) -> Result<(), AllocError> {
-        if numbers.as_slice().is_empty() || !self.sets.meet(kind)? {
-            return Ok(());
-        }
-        for number in numbers.as_slice() {
-            self.texts.meet(*number)?;
-        }
-        Ok(())
+// The same as a set.
+fn placed(
+    alloc: Global,
+    met: &IndexSet<usize>,
+    numbers: &Numbers,
+) -> Result<BTreeSet<u64>, AllocError>
+    ensures { IfOk result (λ places. places.keys ≡ rising met.now.keys numbers.now) }
+{
+    let mut set = BTreeSet::new(alloc);
+    for number in numbers.as_slice() {
+        set.insert(place_of(met, *number))?;
     }
+    Ok(set)
+}
 
-    /// The places of the policies of a set, rising.
-    pub(crate) fn places(
-        &self,
-        alloc: Global,
-        numbers: &Numbers,
-    ) -> Result<Vec<usize>, AllocError> {
-        let mut places = Vec::with_capacity(alloc, numbers.as_slice().len())?;
-        for number in numbers.as_slice() {
-            if let Some(place) = self.texts.place(*number) {
-                places.push(place)?;
-            }
-        }
-        places.sort()?;
-        Ok(places)
+/// The place of a number among those that were met, or how many these are.
+pub(crate) fn place_of(met: &IndexSet<usize>, number: usize) -> u64
+    ensures { result ≡ place nat_eq number met.now.keys }
+{
+    match met.get_index_of(&number) {
+        Some(place) => place as u64,
+        None => met.len() as u64,
     }
 }

@@ -66,6 +66,6 @@ impl FrozenRuns {
         ensures err { OnErr result (self.new ≡ self.old) }
     {
         let kind = self.table.kind_of(set)?;
-        self.table.push_kind(len, kind)
+        self.table.push_kind(len, &kind)
     }
 }

@@ -5,6 +5,7 @@ ghost use Rattle.std.specs.Cmp.{partial_equiv_from_equiv, partial_order_from_own
 ghost use Rattle.std.specs.Cmp.Lexicographic.{pointwise, slice_cmp, nat_list_eq_equiv};
 ghost use Rattle.std.specs.Cmp.Rules.{comparing};
 ghost use Rattle.std.proofs.Common.{rules};
+ghost use Rattle.resin_shadow.specs.Marks.{IsTextSet};
 ghost use Rattle.resin_shadow.specs.Runs.{set_of};
 
 use crate::lists::FrozenList;
@@ -82,7 +83,8 @@ impl Ord for ByBytes {
 
 /// The texts of a list, each once, ordered by their bytes.
 pub(crate) fn sorted(alloc: Global, list: &FrozenList) -> Result<FrozenList, AllocError>
-    ensures { IfOk result (λ set. set ≡ set_of list.now) }
+    ensures set { IfOk result (λ set. set ≡ set_of list.now) }
+    ensures ordered { IfOk result (λ set. IsTextSet set) }
 {
     let set = collected(alloc, list)?;
     let mut texts = FrozenList::new(alloc);
