@@ -8,3 +8,6 @@ pub mod Marked
 pub mod Whole
 pub mod Encoded
 pub mod Loops
+pub mod Tables
+pub mod Turning
+pub mod Ending

@@ -1,7 +1,7 @@
 //! Reading shadow texts.
 ghost use Rattle.std.specs.Prelude.{◌≡◌, ◌<◌, [], length, replicate, IfOk};
 ghost use Rattle.resin_frozen.specs.Reads.{Is};
-ghost use Rattle.resin_shadow.specs.Answers.{Decodes};
+ghost use Rattle.resin_shadow.specs.Answers.{Decodes, Kept};
 ghost use Rattle.resin_shadow.specs.Shadows.{written1, written2};
 ghost use Rattle.resin_shadow.specs.Readers.{DecodesBy, Found, read1, read2};
 
@@ -10,6 +10,7 @@ use crate::lists::FrozenList;
 use crate::reading::{read_policies, read_runs_first, read_runs_second, read_sets};
 use crate::runs::FrozenRuns;
 use crate::table::Table;
+use resin_bytes::Bytes;
 use resin_frozen::{Rest, Stop};
 use std::alloc::{AllocError, Global};
 
@@ -50,11 +51,7 @@ fn second(alloc: Global, len: u64, shadow: &[u8]) -> Result<Option<FrozenRuns>, 
         return Ok(None);
     }
     let text = encode(alloc, &runs)?;
-    Ok(if text.as_slice() == shadow {
-        Some(runs)
-    } else {
-        None
-    })
+    Ok(kept(runs, &text, shadow))
 }
 
 // The same by one of the first version.
@@ -69,11 +66,18 @@ fn first(alloc: Global, len: u64, shadow: &[u8]) -> Result<Option<FrozenRuns>, A
         return Ok(None);
     }
     let text = encode_first(alloc, &runs)?;
-    Ok(if text.as_slice() == shadow {
+    Ok(kept(runs, &text, shadow))
+}
+
+// The runs, if this text of theirs is the shadow.
+fn kept(runs: FrozenRuns, text: &Bytes, shadow: &[u8]) -> Option<FrozenRuns>
+    ensures { Kept runs text.now shadow.now result }
+{
+    if text.as_slice() == shadow {
         Some(runs)
     } else {
         None
-    })
+    }
 }
 
 // What was read, if anything was.

@@ -66,7 +66,8 @@ fn push_line(text: &mut Bytes, first: u64, more: &[u64]) -> Result<(), AllocErro
 {
     push_number(text, first)?;
     push_words(text, more)?;
-    text.push(b'\n')
+    text.push(b'\n')?;
+    Ok(())
 }
 
 // Puts numbers last, each behind a space.

@@ -289,7 +289,10 @@ fn push(table: &mut Table, len: u64, kind: &Kind) -> Result<(), Stop>
     ensures texts { table.new.texts.keys ≡ table.old.texts.keys }
     ensures reads { Pushes (spec.longer (marks_of table.old.runs.items) (len, kind.now.set)) result (marks_of table.new.runs.items) }
 {
-    if len == 0 || table.len.checked_add(len).is_none() {
+    if len == 0 {
+        return Err(Stop::Form);
+    }
+    if table.len.checked_add(len).is_none() {
         return Err(Stop::Form);
     }
     table.push_kind(len, kind)?;

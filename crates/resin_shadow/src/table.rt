@@ -3,7 +3,8 @@ ghost use Rattle.std.specs.Prelude.{◌≡◌, ◌<◌, ◌++◌, ◌+◌, ◌^�
 ghost use Rattle.std.specs.List.{IsDistinct};
 ghost use Rattle.std.specs.Str.{bytes_eq};
 ghost use Rattle.resin_shadow.specs.Marks.{Each, IsTextSet};
-ghost use Rattle.resin_shadow.specs.Runs.{IsTable, IsKindOf, AreTextsAt, HasNumber, Stays, run_of, marks_of, set_of};
+ghost use Rattle.resin_shadow.specs.Runs.{IsTable, IsKindOf, AreTextsAt, HasNumber, Stays, marks_of, set_of};
+ghost use Rattle.resin_shadow.specs.Ends.{EndsApart, EndsWith, Ends};
 ghost use Rattle.resin_frozen.specs.Policies.{IsPolicyText};
 
 use crate::lists::FrozenList;
@@ -122,19 +123,62 @@ impl Table {
         ensures ok { OnOk result (marks_of self.new.runs.items ≡ marks_of self.old.runs.items ++ replicate len kind.now.set) }
         ensures err { OnErr result (self.new.runs.items ≡ self.old.runs.items) }
     {
-        let total = self.len + len;
-        match self.runs.last_mut() {
-            Some(run) if run.kind == kind.number => run.len += len,
-            _ => {
-                let set = kind.set.clone()?;
-                self.runs.push(FrozenRun {
-                    len,
-                    set,
-                    kind: kind.number,
-                })?;
-            }
+        if self.ends_with(kind) {
+            self.lengthen(len, kind);
+            Ok(())
+        } else {
+            self.push_run(len, kind)
         }
-        self.len = total;
+    }
+
+    // Whether the last run has this set.
+    fn ends_with(&self, kind: &Kind) -> bool
+        requires table { IsTable self.now }
+        requires known { IsKindOf self.now kind.now }
+        ensures { Ends kind.now.set self.now.runs.items result }
+    {
+        match self.runs.last() {
+            Some(run) => run.kind == kind.number,
+            None => false,
+        }
+    }
+
+    // Puts more bytes to the last run, which has this set.
+    fn lengthen(&mut self, len: u64, kind: &Kind)
+        requires table { IsTable self.old }
+        requires ends { EndsWith kind.now.set self.old.runs.items }
+        requires count { self.old.len + len < 2 ^ 64 }
+        ensures table { IsTable self.new }
+        ensures sets { self.new.sets.keys ≡ self.old.sets.keys }
+        ensures texts { self.new.texts.keys ≡ self.old.texts.keys }
+        ensures marks { marks_of self.new.runs.items ≡ marks_of self.old.runs.items ++ replicate len kind.now.set }
+    {
+        let last = self.runs.len() - 1;
+        let total = self.runs[last].len + len;
+        self.runs[last].len = total;
+        self.len += len;
+    }
+
+    // Puts a run last that doesn't join the one before.
+    fn push_run(&mut self, len: u64, kind: &Kind) -> Result<(), AllocError>
+        requires table { IsTable self.old }
+        requires some { 0 < len }
+        requires count { self.old.len + len < 2 ^ 64 }
+        requires known { IsKindOf self.old kind.now }
+        requires ends { EndsApart kind.now.set self.old.runs.items }
+        ensures table { IsTable self.new }
+        ensures sets { self.new.sets.keys ≡ self.old.sets.keys }
+        ensures texts { self.new.texts.keys ≡ self.old.texts.keys }
+        ensures ok { OnOk result (marks_of self.new.runs.items ≡ marks_of self.old.runs.items ++ replicate len kind.now.set) }
+        ensures err { OnErr result (self.new.runs.items ≡ self.old.runs.items) }
+    {
+        let set = kind.set.clone()?;
+        self.runs.push(FrozenRun {
+            len,
+            set,
+            kind: kind.number,
+        })?;
+        self.len += len;
         Ok(())
     }
 }
