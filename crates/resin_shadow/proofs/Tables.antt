@@ -8,6 +8,7 @@ use Rattle.std.proofs.lemmas.Slice.Eq.{bytes_eq-Decides}
 use Rattle.std.proofs.lemmas.List.Sums.{sum_by-append, sum_by-cons}
 use Rattle.std.proofs.lemmas.List.{length-replicate}
 use Rattle.resin_frozen.specs.Policies.{IsPolicyText}
+use Rattle.resin_frozen.proofs.Numbers.{from_some, none_some}
 use Rattle.resin_shadow.specs.declared.table.FrozenRun.{FrozenRun}
 use Rattle.resin_shadow.specs.declared.table.Kind.{Kind}
 use Rattle.resin_shadow.specs.declared.table.Table.{Table}
@@ -194,3 +195,22 @@ last_longer rs s x d i n w e is =
 
 pub kinds_same : (t u : Table) (ks : List Kind) → u.sets.keys ≡ t.sets.keys → u.texts.keys ≡ t.texts.keys → Each (IsKindOf t) ks → Each (IsKindOf u) ks
 kinds_same t u ks a b h = each_map (IsKindOf t) (IsKindOf u) ks (λ k p. kind_same t u k.number k.set a b p) h
+
+got : (xs : List FrozenRun) (i : ℕ) (x : FrozenRun) → slice_get xs i ≡ Some x → (x ≡ get_or xs i x) × (i < length xs)
+got [] i x e = absurd (none_some x e)
+got (y ∷ xs) zero x e = (sym (from_some y x e), omega arith)
+got (y ∷ xs) (suc i) x e = let g = got xs i x e in (g.0, let l = g.1 in omega (arith, l))
+
+pub ends_found : (t : Table) (k : Kind) (x : FrozenRun) → IsTable t → IsKindOf t k → Some x ≡ slice_get t.runs.items (length t.runs.items - 1) → Ends k.set t.runs.items (nat_eq x.kind k.number)
+ends_found t k x h known e =
+    let g = got t.runs.items (length t.runs.items - 1) x (sym e) in
+    ends_at t k x x (length t.runs.items - 1) (nat_eq x.kind k.number) h known refl (let l = g.1 in omega (arith, l)) g.0 refl
+
+pub lengthened : (rs : List FrozenRun) (s : TextSet) (x y : FrozenRun) (i n : ℕ) (w : EndsWith s rs) → i ≡ length rs - 1 → x ≡ get_or rs i x → y ≡ get_or rs i y
+    → slice_set rs i (record { len = x.len + n; set = y.set; kind = y.kind }) ≡ w.0 ++ longer_run n w.1 ∷ []
+lengthened rs s x y i n w e a b =
+    let place : i ≡ length w.0 = place_last w.0 w.1 i (subst (λ zs. i ≡ length zs - 1) w.2 e) in
+    let xs : x ≡ w.1 = a ∙ ap (λ zs. get_or zs i x) w.2 ∙ get_last w.0 w.1 x i place in
+    let ys : y ≡ w.1 = b ∙ ap (λ zs. get_or zs i y) w.2 ∙ get_last w.0 w.1 y i place in
+    ap (λ zs. slice_set zs i (record { len = x.len + n; set = y.set; kind = y.kind })) w.2 ∙ set_last w.0 w.1 (record { len = x.len + n; set = y.set; kind = y.kind }) i place
+    ∙ ap (λ (r : FrozenRun). w.0 ++ record { len = r.len + n; set = y.set; kind = y.kind } ∷ []) xs ∙ ap (λ (r : FrozenRun). w.0 ++ record { len = w.1.len + n; set = r.set; kind = r.kind } ∷ []) ys

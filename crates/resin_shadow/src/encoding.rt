@@ -25,7 +25,7 @@ pub fn encode(alloc: Global, m: &FrozenRuns) -> Result<Bytes, AllocError>
         return Ok(text);
     }
     text.push_slice(b"resin2 ")?;
-    let counts = [sets.len() as u64, table.runs.len() as u64];
+    let counts = [sets.len() as u64, table.runs.as_slice().len() as u64];
     push_line(&mut text, texts.len() as u64, &counts)?;
     push_policies(&mut text, table, &texts)?;
     push_sets(alloc, &mut text, table, &texts, &sets)?;
@@ -45,7 +45,7 @@ pub(crate) fn encode_first(alloc: Global, m: &FrozenRuns) -> Result<Bytes, Alloc
         return Ok(text);
     }
     text.push_slice(b"resin1 ")?;
-    let counts = [table.runs.len() as u64];
+    let counts = [table.runs.as_slice().len() as u64];
     push_line(&mut text, texts.len() as u64, &counts)?;
     push_policies(&mut text, table, &texts)?;
     push_runs_first(alloc, &mut text, table, &texts)?;

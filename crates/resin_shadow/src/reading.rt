@@ -1,5 +1,5 @@
 //! Reading the parts of shadow texts.
-ghost use Rattle.std.specs.Prelude.{◌≡◌, ◌<◌, [], map, nat_eq, IfOk};
+ghost use Rattle.std.specs.Prelude.{◌≡◌, ◌∷◌, ◌++◌, [], map, nat_eq, OnOk, OnErr, IfOk};
 ghost use Rattle.std.specs.List.{position};
 ghost use Rattle.std.specs.Option.{option_copied};
 ghost use Rattle.resin_frozen.specs.Reads.{Reads, Is};
@@ -78,7 +78,16 @@ fn read_set(
 {
     let line = rest.until(b'\n')?;
     let kind = told(alloc, table, policies, line)?;
-    kinds.push(kind).map_err(AllocError::from)?;
+    keep(kinds, kind)?;
+    Ok(())
+}
+
+// Puts a set last.
+fn keep(kinds: &mut Vec<Kind>, kind: Kind) -> Result<(), AllocError>
+    ensures ok { OnOk result (kinds.new.items ≡ kinds.old.items ++ kind ∷ []) }
+    ensures err { OnErr result (kinds.new.items ≡ kinds.old.items) }
+{
+    kinds.push(kind)?;
     Ok(())
 }
 

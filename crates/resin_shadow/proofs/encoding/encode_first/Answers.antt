@@ -1,4 +1,4 @@
-use Rattle.std.proofs.Common.{◌≡◌, sym, ◌∙◌}
+use Rattle.std.proofs.Common.{◌≡◌, length, sym, ap, ◌∙◌}
 use Rattle.std.proofs.lemmas.Bool.{true≢false}
 use Rattle.resin_shadow.proofs.Ending.{none1, some1}
 use Rattle.resin_shadow.proofs.encoding.encode_first.Goals as goal
@@ -10,5 +10,5 @@ returns-then-is_empty c =
 pub returns : goal.returns
 returns c =
     some1 c.m.inside.table c.args.m.now c.in_ok-sets.sets.keys c.in_ok-texts.texts.keys c.new-text.result c.push_slice.new.self c.push_line.new.text c.push_policies.new.text c.push_runs_first.new.text c.len-2.result c.len.result
-    c.m.invariant c.m.view_is c.in_ok-sets.ensures c.in_ok-texts.ensures (λ z. true≢false (sym (c.is_empty.ensures.1 z) ∙ c.if-is_empty.false)) c.len-2.ensures.len c.len.ensures c.new-text.ensures c.in_ok-push_slice.ensures.ok c.in_ok-push_line.ensures
+    c.m.invariant c.m.view_is c.in_ok-sets.ensures c.in_ok-texts.ensures (λ z. true≢false (sym (c.is_empty.ensures.1 z) ∙ c.if-is_empty.false)) c.len-2.ensures.len (c.len.ensures ∙ ap length c.as_slice.ensures.value) c.new-text.ensures c.in_ok-push_slice.ensures.ok c.in_ok-push_line.ensures
     c.in_ok-push_policies.ensures c.in_ok-push_runs_first.ensures

@@ -8,11 +8,11 @@ use Rattle.resin_shadow.proofs.reading.read_runs_second.Goals as goal
 
 pub loop-i-init : goal.loop-i-init
 loop-i-init c = record {
-  table = c.kind_of.ensures.table;
-  kinds = kinds_kept c.args.table.now c.kind_of.new.self c.args.kinds.now c.kind_of.ensures.stays c.requires.kinds;
+  table = c.in_ok-none.ensures.table;
+  kinds = kinds_kept c.args.table.now _ c.args.kinds.now c.in_ok-none.ensures.stays c.requires.kinds;
   none = c.in_ok-none.ensures.kind;
   empty = ?;
-  reads = refl;
+  reads = ?;
 }
 
 pub loop-i-preserved : goal.loop-i-preserved

@@ -8,5 +8,5 @@ loop-text-preserved c = record {
   table = c.number_of.ensures.table;
   stays = stays_more c.args.self.now c.loop-text.self c.number_of.new.self c.loop-text.invariant.stays c.number_of.ensures.stays;
   numbers = numbers_next c.loop-text.self.texts.keys c.number_of.new.self.texts.keys c.loop-text.numbers c.push.new.self c.in_ok-number.number c.as_slice-text-items.result.now c.loop-text.text-index c.in_ok-clone.field-0 c.text-item.result
-      c.loop-text-test.true (c.in_ok-clone.ensures ∙ c.text-item.is) c.number_of.ensures.stays.texts c.loop-text.invariant.numbers c.in_ok-number.ensures.number c.in_ok-push.ensures.ok;
+      c.loop-text-test.true (c.in_ok-clone.ensures.cases ∙ c.text-item.is) c.number_of.ensures.stays.texts c.loop-text.invariant.numbers c.in_ok-number.ensures.number c.in_ok-push.ensures.ok;
 }
