@@ -33,12 +33,16 @@ policies_printed texts (n ∷ ns) (t ∷ ts) h = ap (λ x. (x ++ 10 ∷ []) ++ p
 module _ (t : Table) (h : IsTable t) where
   abbrev V : Marks
   V = marks_of t.runs.items
+
   abbrev T : List (List ℕ)
   T = policies V
+
   abbrev S : List TextSet
   S = sets V
+
   abbrev K : List ℕ
   K = sets_met t.runs.items
+
   abbrev M : List ℕ
   M = texts_met t.sets.keys K
 

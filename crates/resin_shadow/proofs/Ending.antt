@@ -64,14 +64,15 @@ pub some2 : (t : Table) (v : Marks) (K M x0 x1 x2 x3 x4 x5 : List ℕ) (m k r : 
     → x4 ≡ x3 ++ flat_map (set_text t.sets.keys M) K → x5 ≡ x4 ++ flat_map (run_text2 K) t.runs.items → x5 ≡ written2 v
 some2 t v K M x0 x1 x2 x3 x4 x5 m k r h e ek em nz em' ek' er h0 h1 h2 h3 h4 h5 =
     h5 ∙ ap (λ x. x ++ flat_map (run_text2 K) t.runs.items) (h4 ∙ ap (λ x. x ++ flat_map (set_text t.sets.keys M) K) (h3 ∙ ap (λ x. x ++ policies_text t.texts.keys M)
-        (h2 ∙ ap (λ x. x ++ line (decimal m ∷ map decimal (k ∷ r ∷ []))) (h1 ∙ ap (λ x. x ++ codes "resin2 ") h0)
-        ∙ ap (λ n. codes "resin2 " ++ line (decimal n ∷ decimal k ∷ decimal r ∷ [])) em' ∙ ap (λ n. codes "resin2 " ++ line (decimal (length M) ∷ decimal n ∷ decimal r ∷ [])) ek'
-        ∙ ap (λ n. codes "resin2 " ++ line (decimal (length M) ∷ decimal (length K) ∷ decimal n ∷ [])) er)))
+    (h2 ∙ ap (λ x. x ++ line (decimal m ∷ map decimal (k ∷ r ∷ []))) (h1 ∙ ap (λ x. x ++ codes "resin2 ") h0)
+    ∙ ap (λ n. codes "resin2 " ++ line (decimal n ∷ decimal k ∷ decimal r ∷ [])) em' ∙ ap (λ n. codes "resin2 " ++ line (decimal (length M) ∷ decimal n ∷ decimal r ∷ [])) ek'
+    ∙ ap (λ n. codes "resin2 " ++ line (decimal (length M) ∷ decimal (length K) ∷ decimal n ∷ [])) er)))
     ∙ ap (λ y. f y M) ek ∙ ap (f (sets_met t.runs.items)) all
     ∙ whole2 t h (λ z. nz (ap length all ∙ z)) ∙ ap written2 e
   where
     f : List ℕ → List ℕ → List ℕ
     f K M = (((codes "resin2 " ++ line (decimal (length M) ∷ map decimal (length K ∷ length t.runs.items ∷ []))) ++ policies_text t.texts.keys M) ++ flat_map (set_text t.sets.keys M) K) ++ flat_map (run_text2 K) t.runs.items
+
     all : M ≡ texts_met t.sets.keys (sets_met t.runs.items)
     all = em ∙ ap (texts_met t.sets.keys) ek
 
@@ -80,13 +81,14 @@ pub some1 : (t : Table) (v : Marks) (K M x0 x1 x2 x3 x4 : List ℕ) (m r : ℕ) 
     → x4 ≡ x3 ++ flat_map (run_text1 t.sets.keys M) t.runs.items → x4 ≡ written1 v
 some1 t v K M x0 x1 x2 x3 x4 m r h e ek em nz em' er h0 h1 h2 h3 h4 =
     h4 ∙ ap (λ x. x ++ flat_map (run_text1 t.sets.keys M) t.runs.items) (h3 ∙ ap (λ x. x ++ policies_text t.texts.keys M)
-        (h2 ∙ ap (λ x. x ++ line (decimal m ∷ map decimal (r ∷ []))) (h1 ∙ ap (λ x. x ++ codes "resin1 ") h0)
-        ∙ ap (λ n. codes "resin1 " ++ line (decimal n ∷ decimal r ∷ [])) em' ∙ ap (λ n. codes "resin1 " ++ line (decimal (length M) ∷ decimal n ∷ [])) er))
+    (h2 ∙ ap (λ x. x ++ line (decimal m ∷ map decimal (r ∷ []))) (h1 ∙ ap (λ x. x ++ codes "resin1 ") h0)
+    ∙ ap (λ n. codes "resin1 " ++ line (decimal n ∷ decimal r ∷ [])) em' ∙ ap (λ n. codes "resin1 " ++ line (decimal (length M) ∷ decimal n ∷ [])) er))
     ∙ ap f all
     ∙ whole1 t h (λ z. nz (ap length all ∙ z)) ∙ ap written1 e
   where
     f : List ℕ → List ℕ
     f M = ((codes "resin1 " ++ line (decimal (length M) ∷ map decimal (length t.runs.items ∷ []))) ++ policies_text t.texts.keys M) ++ flat_map (run_text1 t.sets.keys M) t.runs.items
+
     all : M ≡ texts_met t.sets.keys (sets_met t.runs.items)
     all = em ∙ ap (texts_met t.sets.keys) ek
 
@@ -96,7 +98,7 @@ pub numbers_next : (old new : List (List ℕ)) (ns more : List ℕ) (n : ℕ) (i
 numbers_next old new ns more n items i t d lt e g a h m =
     subst (λ ks. AreTextsAt new ks (take (i + 1) items)) (sym m)
     (subst (λ ts. AreTextsAt new (ns ++ n ∷ []) ts) (sym (take_next items i d lt))
-        (related_push (HasNumber new) ns (take i items) n (get_or items i d) (texts_kept old new ns (take i items) g a) (subst (HasNumber new n) e h)))
+    (related_push (HasNumber new) ns (take i items) n (get_or items i d) (texts_kept old new ns (take i items) g a) (subst (HasNumber new n) e h)))
 
 -- ---- a run that isn't put
 pub longer_none : (v : Marks) (n : ℕ) (s : TextSet) → n ≡ 0 → longer v (n, s) ≡ None

@@ -255,4 +255,4 @@ pub texts_related : (t : Table) → IsTable t → Related (HasNumber t.texts.key
 texts_related t h =
     subst (Related (HasNumber t.texts.keys) (texts_met t.sets.keys (sets_met t.runs.items))) (sym (policies_of_sets (marks_of t.runs.items)))
     (fold_related (HasNumber t.texts.keys) nat_eq bytes_eq (λ a c b d. numbers_agree t h a c b d) (flat_map (numbered t.sets.keys) (sets_met t.runs.items)) (flat_map (λ s. s) (sets (marks_of t.runs.items))) [] []
-        (texts_related_by t (sets_met t.runs.items) (sets (marks_of t.runs.items)) (sets_related t h)) tt)
+    (texts_related_by t (sets_met t.runs.items) (sets (marks_of t.runs.items)) (sets_related t h)) tt)

@@ -100,10 +100,11 @@ placed_from pre [] s f e = tt
 placed_from pre (x ∷ T) s f e =
     by (list_any (bytes_eq x) s)
     (subst (λ xs. AreTextsAt xs (places_from (f + 1) T s) (filter (λ t. list_any (bytes_eq t) s) T)) (with_head pre x T)
-        (placed_from (pre ++ x ∷ []) T s (f + 1) (let l : length (pre ++ x ∷ []) ≡ length pre + 1 = length-append pre (x ∷ []) in omega (arith, l, e))))
+    (placed_from (pre ++ x ∷ []) T s (f + 1) (let l : length (pre ++ x ∷ []) ≡ length pre + 1 = length-append pre (x ∷ []) in omega (arith, l, e))))
   where
     here : HasNumber (pre ++ x ∷ T) f x
     here = subst (λ n. HasNumber (pre ++ x ∷ T) n x) (sym e) (subst (λ xs. HasNumber xs (length pre) x) (with_head pre x T) (slice_kept (pre ++ x ∷ []) T (length pre) x (slice_last pre x)))
+
     by : (b : Bool) → AreTextsAt (pre ++ x ∷ T) (places_from (f + 1) T s) (filter (λ t. list_any (bytes_eq t) s) T) → AreTextsAt (pre ++ x ∷ T) (cond b (f ∷ places_from (f + 1) T s) (places_from (f + 1) T s)) (cond b (x ∷ filter (λ t. list_any (bytes_eq t) s) T) (filter (λ t. list_any (bytes_eq t) s) T))
     by true rest = (here, rest)
     by false rest = rest
@@ -216,6 +217,7 @@ run_front1 T acc r rest small h some total = by (places T r.1) (told_places T r.
   where
     low : IsSmall r.0
     low = omega (arith, total)
+
     by : (ps : List ℕ) → ((ps ≡ []) × (r.1 ≡ [])) ⊎ ((p : ℕ) × (qs : List ℕ) × (ps ≡ p ∷ qs) × (set_told T (join_with_byte 32 (map decimal ps)) ≡ Some r.1))
         → Each IsSmall ps → run_step (run_set1 T) acc (line (decimal r.0 ∷ map decimal ps) ++ rest) ≡ Some (acc ++ replicate r.0 r.1, rest)
     by [] (inl e) k = run_there (run_set1 T) acc (decimal r.0) r.0 None r.1 rest (lacks_number 10 r.0 (omega arith) low) (parts_alone r.0 low) (ap Some (sym e.1)) some total
@@ -240,6 +242,7 @@ run_front2 S acc r rest small h some total = by h
   where
     low : IsSmall r.0
     low = omega (arith, total)
+
     by : (r.1 ≡ []) ⊎ ((r.1 ≢ []) × (slice_get S (place same_set r.1 S) ≡ Some r.1)) → run_step (run_set2 S) acc (line (decimal r.0 ∷ set_place S r.1) ++ rest) ≡ Some (acc ++ replicate r.0 r.1, rest)
     by (inl e) =
         ap (λ s. run_step (run_set2 S) acc (line (decimal r.0 ∷ set_place S s) ++ rest)) e

@@ -25,6 +25,7 @@ next (x ∷ xs) (suc i) d h = ap (λ ys. x ∷ ys) (next xs i d (omega arith))
 
 pub take_next : {X : Type 0} (xs : List X) (i : ℕ) (d : X) → i < length xs → take (i + 1) xs ≡ take i xs ++ get_or xs i d ∷ []
 take_next xs i d h = ap (λ n. take n xs) (let e : i + 1 ≡ suc i = omega arith in e) ∙ next xs i d h
+
 pub fold_next : {X Y : Type 0} (f : Y → X → Y) (y : Y) (xs : List X) (i : ℕ) (d : X) → i < length xs → fold f y (take (i + 1) xs) ≡ f (fold f y (take i xs)) (get_or xs i d)
 fold_next f y xs i d h = ap (fold f y) (take_next xs i d h) ∙ fold-append f y (take i xs) (get_or xs i d ∷ [])
 

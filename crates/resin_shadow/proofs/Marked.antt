@@ -176,8 +176,10 @@ is_met (s ∷ v) D = (here s, is_met v (met_set D s))
     here : (s : TextSet) → IsMet (fold met_set (met_set D s) v) s
     here [] = inl refl
     here (x ∷ s) =
-        inr (is_some (x ∷ s) (some_is_none x s),
-        keeps_met (x ∷ s) v (met_set D (x ∷ s)) (subst (λ b. list_any (same_set (x ∷ s)) (cond b D (insert_key same_set D (x ∷ s))) ≡ true) (sym (some_is_none x s)) (has_it same_set same_decides (x ∷ s) D)))
+        inr (
+          is_some (x ∷ s) (some_is_none x s),
+          keeps_met (x ∷ s) v (met_set D (x ∷ s)) (subst (λ b. list_any (same_set (x ∷ s)) (cond b D (insert_key same_set D (x ∷ s))) ≡ true) (sym (some_is_none x s)) (has_it same_set same_decides (x ∷ s) D)),
+        )
 
 placed : (s : TextSet) (S : List TextSet) → list_any (same_set s) S ≡ true → slice_get S (place same_set s S) ≡ Some s
 placed s [] h = absurd (true≢false (sym h))

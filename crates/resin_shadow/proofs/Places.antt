@@ -68,6 +68,7 @@ no_place f (x ∷ T) pre t h =
     left : (a b : Bool) → (a || b) ≡ false → a ≡ false
     left true b h = h
     left false b h = refl
+
     right : (a b : Bool) → (a || b) ≡ false → b ≡ false
     right true b h = absurd (true≢false h)
     right false b h = h
@@ -112,9 +113,11 @@ one_place f (x ∷ T) pre t a h = by (bytes_eq t x) refl h (λ m. one_place (f +
     by_pre : (b : Bool) → f ∷ (places_from (f + 1) T pre) ≡ insert_key nat_cmp (cond b (f ∷ (places_from (f + 1) T pre)) (places_from (f + 1) T pre)) (f + 0)
     by_pre true = sym (put_same f (f + 0) (places_from (f + 1) T pre) (omega arith))
     by_pre false = sym (ap (insert_key nat_cmp (places_from (f + 1) T pre)) (let e : f + 0 ≡ f = omega arith in e) ∙ put_first f (places_from (f + 1) T pre) (above f (f + 1) T pre (omega arith)))
+
     later : (b : Bool) → (places_from (f + 1) T (pre ++ t ∷ [])) ≡ insert_key nat_cmp (places_from (f + 1) T pre) (f + (1 + place bytes_eq t T)) → cond b (f ∷ (places_from (f + 1) T (pre ++ t ∷ []))) (places_from (f + 1) T (pre ++ t ∷ [])) ≡ insert_key nat_cmp (cond b (f ∷ (places_from (f + 1) T pre)) (places_from (f + 1) T pre)) (f + (1 + place bytes_eq t T))
     later true e = ap (λ ps. f ∷ ps) e ∙ sym (put_later f (f + (1 + place bytes_eq t T)) (places_from (f + 1) T pre) (omega arith))
     later false e = e
+
     by : (b : Bool) → bytes_eq t x ≡ b → (b || list_any (bytes_eq t) T) ≡ true
         → (list_any (bytes_eq t) T ≡ true → places_from (f + 1) T (pre ++ t ∷ []) ≡ insert_key nat_cmp (places_from (f + 1) T pre) ((f + 1) + place bytes_eq t T))
         → cond (list_any (bytes_eq x) (pre ++ t ∷ [])) (f ∷ (places_from (f + 1) T (pre ++ t ∷ []))) (places_from (f + 1) T (pre ++ t ∷ [])) ≡ insert_key nat_cmp (cond (list_any (bytes_eq x) pre) (f ∷ (places_from (f + 1) T pre)) (places_from (f + 1) T pre)) (f + position_or_len (bytes_eq t) (x ∷ T))
@@ -217,6 +220,7 @@ no_text (x ∷ S) pre t h =
     left : (a b : Bool) → (a || b) ≡ false → a ≡ false
     left true b h = h
     left false b h = refl
+
     right : (a b : Bool) → (a || b) ≡ false → b ≡ false
     right true b h = absurd (true≢false h)
     right false b h = h
@@ -230,9 +234,11 @@ one_text (x ∷ S) pre t a h = by (bytes_eq t x) refl h (λ m. one_text S pre t 
     by_pre : (b : Bool) → t ≡ x → x ∷ (filter (λ x. list_any (bytes_eq x) pre) S) ≡ insert_key (slice_cmp nat_cmp) (cond b (x ∷ (filter (λ x. list_any (bytes_eq x) pre) S)) (filter (λ x. list_any (bytes_eq x) pre) S)) t
     by_pre true e = sym (ap (λ o. match_ordering o (t ∷ x ∷ (filter (λ x. list_any (bytes_eq x) pre) S)) (x ∷ (filter (λ x. list_any (bytes_eq x) pre) S)) (x ∷ insert_key (slice_cmp nat_cmp) (filter (λ x. list_any (bytes_eq x) pre) S) t)) (ap (slice_cmp nat_cmp t) (sym e) ∙ self_equal t))
     by_pre false e = sym (text_first t (filter (λ x. list_any (bytes_eq x) pre) S) (behind_kept t (λ x. list_any (bytes_eq x) pre) S (subst (λ z. Behind z S) (sym e) a.0)) ∙ ap (λ z. z ∷ (filter (λ x. list_any (bytes_eq x) pre) S)) e)
+
     later : (b : Bool) → slice_cmp nat_cmp t x ≡ Greater → (filter (λ x. list_any (bytes_eq x) (pre ++ t ∷ [])) S) ≡ insert_key (slice_cmp nat_cmp) (filter (λ x. list_any (bytes_eq x) pre) S) t → cond b (x ∷ (filter (λ x. list_any (bytes_eq x) (pre ++ t ∷ [])) S)) (filter (λ x. list_any (bytes_eq x) (pre ++ t ∷ [])) S) ≡ insert_key (slice_cmp nat_cmp) (cond b (x ∷ (filter (λ x. list_any (bytes_eq x) pre) S)) (filter (λ x. list_any (bytes_eq x) pre) S)) t
     later true g e = ap (λ ps. x ∷ ps) e ∙ sym (ap (λ o. match_ordering o (t ∷ x ∷ (filter (λ x. list_any (bytes_eq x) pre) S)) (x ∷ (filter (λ x. list_any (bytes_eq x) pre) S)) (x ∷ insert_key (slice_cmp nat_cmp) (filter (λ x. list_any (bytes_eq x) pre) S) t)) g)
     later false g e = e
+
     by : (b : Bool) → bytes_eq t x ≡ b → (b || list_any (bytes_eq t) S) ≡ true
         → (list_any (bytes_eq t) S ≡ true → filter (λ x. list_any (bytes_eq x) (pre ++ t ∷ [])) S ≡ insert_key (slice_cmp nat_cmp) (filter (λ x. list_any (bytes_eq x) pre) S) t)
         → cond (list_any (bytes_eq x) (pre ++ t ∷ [])) (x ∷ (filter (λ x. list_any (bytes_eq x) (pre ++ t ∷ [])) S)) (filter (λ x. list_any (bytes_eq x) (pre ++ t ∷ [])) S) ≡ insert_key (slice_cmp nat_cmp) (cond (list_any (bytes_eq x) pre) (x ∷ (filter (λ x. list_any (bytes_eq x) pre) S)) (filter (λ x. list_any (bytes_eq x) pre) S)) t

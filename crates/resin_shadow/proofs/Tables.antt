@@ -160,7 +160,8 @@ ends_at t k x d i b h known place_is some is test = by t.runs.items refl some
         (front, r, e, kind_set t.sets.keys t.texts.keys r.kind k.number r.set k.set (each_last (λ r. IsKind t r.kind r.set) front r (subst (Each (λ r. IsKind t r.kind r.set)) e h.kinds_are)).0 known.0 (number_from r.kind k.number (sym f)))
     joined front r e false f =
         subst (EndsApart k.set) (sym e) (apart_from k.set front r (λ same. true≢false (sym (number_same r.kind k.number
-            (set_kind t.sets.keys t.texts.keys r.kind k.number r.set k.set h.sets_apart h.texts_apart (each_last (λ r. IsKind t r.kind r.set) front r (subst (Each (λ r. IsKind t r.kind r.set)) e h.kinds_are)).0 known.0 same)) ∙ sym f)))
+        (set_kind t.sets.keys t.texts.keys r.kind k.number r.set k.set h.sets_apart h.texts_apart (each_last (λ r. IsKind t r.kind r.set) front r (subst (Each (λ r. IsKind t r.kind r.set)) e h.kinds_are)).0 known.0 same)) ∙ sym f)))
+
     by : (rs : List FrozenRun) → t.runs.items ≡ rs → 0 < length rs → Ends k.set t.runs.items b
     by [] e some = absurd (omega arith)
     by (y ∷ ys) e some =

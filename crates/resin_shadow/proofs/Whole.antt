@@ -65,7 +65,7 @@ shape2 : (v : Marks) → (length (policies v) == 0) ≡ false
     → written2 v ≡ codes "resin2 " ++ (decimal (length (policies v)) ++ 32 ∷ (decimal (length (sets v)) ++ 32 ∷ (decimal (length (runs_of v)) ++ 10 ∷ body2 v)))
 shape2 v h =
     ap (λ b. cond b [] (line (codes "resin2" ∷ decimal (length (policies v)) ∷ decimal (length (sets v)) ∷ decimal (length (runs_of v)) ∷ [])
-        ++ (policy_lines (policies v) ++ (flat_map (set_line (policies v)) (sets v) ++ flat_map (run_line2 (sets v)) (runs_of v))))) h
+    ++ (policy_lines (policies v) ++ (flat_map (set_line (policies v)) (sets v) ++ flat_map (run_line2 (sets v)) (runs_of v))))) h
     ∙ ap (λ z. line (codes "resin2" ∷ decimal (length (policies v)) ∷ decimal (length (sets v)) ∷ decimal (length (runs_of v)) ∷ []) ++ (policy_lines (policies v) ++ (flat_map (set_line (policies v)) (sets v) ++ z)))
     (sym (append-nil (flat_map (run_line2 (sets v)) (runs_of v))))
     ∙ ap (λ z. codes "resin2 " ++ z) (head2 (decimal (length (policies v))) (decimal (length (sets v))) (decimal (length (runs_of v))) (body2 v))
@@ -165,7 +165,7 @@ read2_written x v small h e some = by (length (policies v) == 0) refl
     by : (b : Bool) → (length (policies v) == 0) ≡ b → read2 x ≡ Some v
     by true z =
         absurd (some (e ∙ ap (λ b. cond b [] (line (codes "resin2" ∷ decimal (length (policies v)) ∷ decimal (length (sets v)) ∷ decimal (length (runs_of v)) ∷ [])
-            ++ (policy_lines (policies v) ++ (flat_map (set_line (policies v)) (sets v) ++ flat_map (run_line2 (sets v)) (runs_of v))))) z))
+        ++ (policy_lines (policies v) ++ (flat_map (set_line (policies v)) (sets v) ++ flat_map (run_line2 (sets v)) (runs_of v))))) z))
     by false z =
         let f = few2 v z (subst (λ y. length y < 2 ^ 64) e small) in
         ap read2 (e ∙ shape2 v z) ∙ read2_shaped v h f.0 f.1 ∙ ap Some (spelled_runs v)
@@ -194,6 +194,7 @@ spells_one (x ∷ xs) v w small hv hw len a b = by a b
   where
     some : x ∷ xs ≢ []
     some e = cc
+
     by : Spells (x ∷ xs) v → Spells (x ∷ xs) w → v ≡ w
     by (inl a) (inl b) = from_some v w (sym (read1_written (x ∷ xs) v small hv a some) ∙ read1_written (x ∷ xs) w small hw b some)
     by (inr a) (inr b) = from_some v w (sym (read2_written (x ∷ xs) v small hv a some) ∙ read2_written (x ∷ xs) w small hw b some)

@@ -93,12 +93,7 @@ fn keep(kinds: &mut Vec<Kind>, kind: Kind) -> Result<(), AllocError>
 
 // The set of the policies whose places a line tells.
 #[tactic(auto, unfolding(crate::specs::Readers::set_told))]
-fn told(
-    alloc: Global,
-    table: &mut Table,
-    policies: &FrozenList,
-    line: &[u8],
-) -> Result<Kind, Stop>
+fn told(alloc: Global, table: &mut Table, policies: &FrozenList, line: &[u8]) -> Result<Kind, Stop>
     requires { IsTable table.old }
     ensures table { IsTable table.new }
     ensures stays { Stays table.old table.new }

@@ -20,4 +20,4 @@ pub returns-in_err-read_set-clause-reads : goal.returns-in_err-read_set-clause-r
 returns-in_err-read_set-clause-reads c =
     let p = err_from_is_err_and c.from_residual.result c.from_residual.ensures.1 in
     rw (p.1, p.2) (kinds_fail Global (set_step c.args.policies.now) (c.args.count - c.loop-i._i) c.args.count (map (λ k. k.set) c.loop-i.kinds.items) [] (map (λ k. k.set) c.read_set.new.kinds.items) c.loop-i.rest c.args.rest.now c.read_set.new.rest c.read_set.new.rest c.in_err-read_set.field-0.0
-        (omega (arith, c.loop-i-test.true)) c.loop-i.invariant.reads c.in_err-read_set.ensures.reads)
+    (omega (arith, c.loop-i-test.true)) c.loop-i.invariant.reads c.in_err-read_set.ensures.reads)
