@@ -195,7 +195,7 @@ parts_more n w h =
     ∙ ap (λ p. and_then (number p.0) (λ n. Some (n, Some p.1))) c.1
     ∙ on (λ n. Some (n, Some w)) (number-decimal n h)
 
-longer_there : (acc : Marks) (n : ℕ) (s : TextSet) → 0 < n → IsSmall (length acc + n) → longer acc (n, s) ≡ Some (acc ++ replicate n s)
+pub longer_there : (acc : Marks) (n : ℕ) (s : TextSet) → 0 < n → IsSmall (length acc + n) → longer acc (n, s) ≡ Some (acc ++ replicate n s)
 unfolding longer
 longer_there acc n s some small =
     let a : nat_eq n 0 ≡ false = grind (arith, nat_tests) in

@@ -11,3 +11,4 @@ pub mod Loops
 pub mod Tables
 pub mod Turning
 pub mod Ending
+pub mod Finding

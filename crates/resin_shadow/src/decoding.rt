@@ -1,5 +1,5 @@
 //! Reading shadow texts.
-ghost use Rattle.std.specs.Prelude.{◌≡◌, ◌<◌, [], length, replicate, IfOk};
+ghost use Rattle.std.specs.Prelude.{◌≡◌, ◌<◌, ◌^◌, [], length, replicate, Some, IfOk};
 ghost use Rattle.resin_frozen.specs.Reads.{Is};
 ghost use Rattle.resin_shadow.specs.Answers.{Decodes, Kept};
 ghost use Rattle.resin_shadow.specs.Shadows.{written1, written2};
@@ -19,7 +19,8 @@ use std::alloc::{AllocError, Global};
 pub fn decode(alloc: Global, len: u64, shadow: &[u8]) -> Result<Option<FrozenRuns>, AllocError>
     ensures { IfOk result (λ found. Decodes len shadow.now found) }
 {
-    if shadow.is_empty() {
+    let size = shadow.len();
+    if size == 0 {
         return Ok(Some(plain(alloc, len)?));
     }
     match second(alloc, len, shadow)? {
@@ -41,12 +42,28 @@ fn plain(alloc: Global, len: u64) -> Result<FrozenRuns, AllocError>
 
 // The same by a text of the second version that isn't empty.
 fn second(alloc: Global, len: u64, shadow: &[u8]) -> Result<Option<FrozenRuns>, AllocError>
-    requires { 0 < length shadow.now }
+    requires some { 0 < length shadow.now }
+    requires size { length shadow.now < 2 ^ 64 }
     ensures { IfOk result (λ found. DecodesBy written2 len shadow.now found) }
 {
-    let Some(runs) = found(read_second(alloc, shadow))? else {
-        return Ok(None);
-    };
+    match found(read_second(alloc, shadow))? {
+        Some(runs) => second_read(alloc, len, shadow, runs),
+        None => Ok(None),
+    }
+}
+
+// The same by the runs that were read.
+fn second_read(
+    alloc: Global,
+    len: u64,
+    shadow: &[u8],
+    runs: FrozenRuns,
+) -> Result<Option<FrozenRuns>, AllocError>
+    requires some { 0 < length shadow.now }
+    requires size { length shadow.now < 2 ^ 64 }
+    requires read { read2 shadow.now ≡ Some runs }
+    ensures { IfOk result (λ found. DecodesBy written2 len shadow.now found) }
+{
     if runs.len() != len {
         return Ok(None);
     }
@@ -54,14 +71,30 @@ fn second(alloc: Global, len: u64, shadow: &[u8]) -> Result<Option<FrozenRuns>, 
     Ok(kept(runs, &text, shadow))
 }
 
-// The same by one of the first version.
+// The same by a text of the first version.
 fn first(alloc: Global, len: u64, shadow: &[u8]) -> Result<Option<FrozenRuns>, AllocError>
-    requires { 0 < length shadow.now }
+    requires some { 0 < length shadow.now }
+    requires size { length shadow.now < 2 ^ 64 }
     ensures { IfOk result (λ found. DecodesBy written1 len shadow.now found) }
 {
-    let Some(runs) = found(read_first(alloc, shadow))? else {
-        return Ok(None);
-    };
+    match found(read_first(alloc, shadow))? {
+        Some(runs) => first_read(alloc, len, shadow, runs),
+        None => Ok(None),
+    }
+}
+
+// The same by the runs that were read.
+fn first_read(
+    alloc: Global,
+    len: u64,
+    shadow: &[u8],
+    runs: FrozenRuns,
+) -> Result<Option<FrozenRuns>, AllocError>
+    requires some { 0 < length shadow.now }
+    requires size { length shadow.now < 2 ^ 64 }
+    requires read { read1 shadow.now ≡ Some runs }
+    ensures { IfOk result (λ found. DecodesBy written1 len shadow.now found) }
+{
     if runs.len() != len {
         return Ok(None);
     }

@@ -1,7 +1,7 @@
-use Rattle.std.proofs.Common.{◌≡◌, ◌-◌, ◌+◌, [], map, refl, arith, ◌∙◌}
-use Rattle.resin_shadow.specs.Runs.{marks_of}
-use Rattle.resin_shadow.specs.Readers.{run_set2, run_step}
-use Rattle.resin_shadow.proofs.Kept.{kinds_kept, kind_kept, stays_same}
+use Rattle.std.proofs.Common.{◌≡◌, ◌-◌, ◌+◌, [], map, ap, arith, ◌∙◌}
+use Rattle.resin_shadow.specs.Runs.{marks_of, set_of}
+use Rattle.resin_shadow.specs.Readers.{times, run_set2, run_step}
+use Rattle.resin_shadow.proofs.Kept.{kinds_kept}
 use Rattle.resin_shadow.proofs.Loops.{turn}
 use Rattle.resin_shadow.proofs.Tables.{kinds_same, kind_same}
 use Rattle.resin_shadow.proofs.reading.read_runs_second.Goals as goal
@@ -11,8 +11,8 @@ loop-i-init c = record {
   table = c.in_ok-none.ensures.table;
   kinds = kinds_kept c.args.table.now _ c.args.kinds.now c.in_ok-none.ensures.stays c.requires.kinds;
   none = c.in_ok-none.ensures.kind;
-  empty = ?;
-  reads = ?;
+  empty = c.in_ok-none.ensures.set ∙ ap set_of c.new.ensures;
+  reads = ap (λ n. times (run_step (run_set2 (map (λ k. k.set) c.args.kinds.now))) n (marks_of c.kind_of-2.new.self.runs.items) c.args.rest.now) (let e : c.args.count - 0 ≡ c.args.count = omega arith in e);
 }
 
 pub loop-i-preserved : goal.loop-i-preserved
