@@ -2,7 +2,7 @@
 use Rattle.std.proofs.Common.{◌≡◌, ◌≢◌, ◌⊎◌, inl, inr, ℕ, zero, suc, ◌+◌, ◌^◌, ◌<◌, ◌≤◌, Bool, true, false, cond, List, [], ◌∷◌, ◌++◌, length, map, take, drop, get_or, Option, Some, None, Ok, Err, decimal, codes, refl, sym, ap, subst, ◌∙◌, arith, append_assoc}
 use Rattle.std.specs.Prelude.{not, ◌==◌, nat_eq, nat_lt, replicate, position}
 use Rattle.std.specs.List.{fold, flat_map, position_or_len}
-use Rattle.std.specs.Option.{SomeIff, is_none}
+use Rattle.std.specs.Option.{SomeIff, is_some}
 use Rattle.std.specs.BTreeSet.{insert_key}
 use Rattle.std.specs.Ordering.{nat_cmp}
 use Rattle.std.proofs.lemmas.Bool.{true≢false}
@@ -110,11 +110,11 @@ longer_none v n s e = let a : nat_eq n 0 ≡ true = grind (arith, nat_tests) in 
 
 pub longer_over : (v : Marks) (n t : ℕ) (s : TextSet) → length v ≡ t → (t + n < 2 ^ 64 → ⊥) → longer v (n, s) ≡ None
 unfolding longer
-longer_over v n t s e no = by (nat_eq n 0) (nat_lt (length v + n) (2 ^ 64)) refl
+longer_over v n t s e over = by (nat_eq n 0) (nat_lt (length v + n) (2 ^ 64)) refl
   where
     by : (a b : Bool) → nat_lt (length v + n) (2 ^ 64) ≡ b → cond a None (cond b (Some (v ++ replicate n s)) None) ≡ None
     by true b h = refl
-    by false true h = absurd (no (let l : length v + n < 2 ^ 64 = grind (arith, nat_tests) in omega (arith, e, l)))
+    by false true h = absurd (over (let l : length v + n < 2 ^ 64 = grind (arith, nat_tests) in omega (arith, e, l)))
     by false false h = refl
 
 pub longer_within : (v w : Marks) (n t : ℕ) (s : TextSet) → length v ≡ t → (n ≡ 0 → ⊥) → t + n < 2 ^ 64 → w ≡ v ++ replicate n s → longer v (n, s) ≡ Some w
@@ -122,11 +122,11 @@ longer_within v w zero t s e some lt is = absurd (some refl)
 longer_within v w (suc n) t s e some lt is = longer_there v (suc n) s (omega arith) (omega (arith, e, lt)) ∙ ap Some (sym is)
 
 -- ---- a sum that fits or doesn't
-pub sum_over : (r : Option ℕ) (P : Type 0) (v : ℕ) → SomeIff r P v → true ≡ is_none r → P → ⊥
+pub sum_over : (r : Option ℕ) (P : Type 0) (v : ℕ) → SomeIff r P v → is_some r ≡ false → P → ⊥
 sum_over None P v h e = h
 sum_over (Some x) P v h e = absurd (true≢false e)
 
-pub sum_within : (r : Option ℕ) (P : Type 0) (v : ℕ) → SomeIff r P v → false ≡ is_none r → P
+pub sum_within : (r : Option ℕ) (P : Type 0) (v : ℕ) → SomeIff r P v → is_some r ≡ true → P
 sum_within None P v h e = absurd (true≢false (sym e))
 sum_within (Some x) P v h e = h.0
 

@@ -53,9 +53,9 @@ pub decoded2 : (len : ℕ) (x : List ℕ) (v : Marks) → DecodesBy written2 len
 decoded2 len x v h = (inr h.0, h.1)
 
 pub decoded1 : (len : ℕ) (x : List ℕ) (o : Option Marks) → DecodesBy written2 len x None → DecodesBy written1 len x o → Decodes len x o
-decoded1 len x (Some v) no h = (inl h.0, h.1)
-decoded1 len x None no h = by
+decoded1 len x (Some v) none h = (inl h.0, h.1)
+decoded1 len x None none h = by
   where
     by : (v : Marks) → AreMarks v → Spells x v → length v ≡ len → ⊥
     by v m (inl e) l = h v m e l
-    by v m (inr e) l = no v m e l
+    by v m (inr e) l = none v m e l

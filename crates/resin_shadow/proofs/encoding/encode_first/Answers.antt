@@ -9,6 +9,6 @@ returns-then-is_empty c =
 
 pub returns : goal.returns
 returns c =
-    some1 c.m.inside.table c.args.m.now c.in_ok-sets.sets.keys c.in_ok-texts.texts.keys c.new-text.result c.push_slice.new.self c.push_line.new.text c.push_policies.new.text c.push_runs_first.new.text c.len-2.result c.len.result
-    c.m.invariant c.m.view_is c.in_ok-sets.ensures c.in_ok-texts.ensures (λ z. true≢false (sym (c.is_empty.ensures.1 z) ∙ c.if-is_empty.false)) c.len-2.ensures.len (c.len.ensures ∙ ap length c.as_slice.ensures.value) c.new-text.ensures c.in_ok-push_slice.ensures.ok c.in_ok-push_line.ensures
+    some1 c.m.inside.table c.args.m.now c.in_ok-sets.sets.keys c.in_ok-texts.texts.keys c.new-text.result c.push_slice.new.self c.push_line.new.text c.push_policies.new.text c.push_runs_first.new.text c.len.result (length c.as_slice.result.now)
+    c.m.invariant c.m.view_is c.in_ok-sets.ensures c.in_ok-texts.ensures (λ z. true≢false (sym (c.is_empty.ensures.1 z) ∙ c.if-is_empty.false)) c.len.ensures.len (ap length c.as_slice.ensures.value) c.new-text.ensures c.in_ok-push_slice.ensures.ok c.in_ok-push_line.ensures
     c.in_ok-push_policies.ensures c.in_ok-push_runs_first.ensures

@@ -1,5 +1,5 @@
-use Rattle.std.proofs.Common.{nat_eq}
-use Rattle.std.proofs.lemmas.Iterator.{map_from_collect}
+use Rattle.std.proofs.Common.{nat_eq, rules}
+use Rattle.std.proofs.lemmas.Iterator.Consumers.{map_from_collect}
 use Rattle.std.proofs.lemmas.Iterator.Splits.{YieldsList-from_slice_split}
 use Rattle.resin_shadow.proofs.reading.words.Goals as goal
 
