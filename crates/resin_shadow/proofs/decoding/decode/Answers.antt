@@ -1,6 +1,6 @@
-use Rattle.std.proofs.Common.{◌≡◌, sym, ◌∙◌}
+use Rattle.std.proofs.Common.{◌≡◌}
 use Rattle.resin_shadow.proofs.Ending.{plain_decoded}
 use Rattle.resin_shadow.proofs.decoding.decode.Goals as goal
 
 pub returns-then-size-eq0 : goal.returns-then-size-eq0
-returns-then-size-eq0 c = rw c.in_ok-plain.ensures (plain_decoded c.args.len c.args.shadow.now (sym c.len-size.ensures ∙ c.if-size-eq0.true))
+returns-then-size-eq0 c = rw c.in_ok-plain.ensures (plain_decoded c.args.len c.args.shadow.now c.if-size-eq0.true)
