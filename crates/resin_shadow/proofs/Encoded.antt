@@ -1,5 +1,5 @@
 -- What is written by numbers is the text of the marks.
-use Rattle.std.proofs.Common.{◌≡◌, ◌≢◌, ℕ, zero, suc, Bool, true, false, cond, List, [], ◌∷◌, ◌++◌, length, map, decimal, codes, refl, sym, ap, subst, ◌∙◌, append_assoc, arith}
+use Rattle.std.proofs.Common.{◌≡◌, ◌≢◌, ℕ, suc, true, false, cond, List, [], ◌∷◌, ◌++◌, length, map, decimal, codes, refl, sym, ap, subst, ◌∙◌, append_assoc, arith}
 use Rattle.std.specs.Prelude.{◌==◌, nat_eq}
 use Rattle.std.specs.List.{fold, flat_map, join_with_byte}
 use Rattle.std.specs.Str.{bytes_eq}
@@ -8,8 +8,8 @@ use Rattle.std.specs.Ordering.{nat_cmp}
 use Rattle.std.proofs.lemmas.Bool.Decides.{nat_tests}
 use Rattle.resin_shadow.specs.declared.table.FrozenRun.{FrozenRun}
 use Rattle.resin_shadow.specs.declared.table.Table.{Table}
-use Rattle.resin_shadow.specs.Marks.{TextSet, IsTextSet, Marks, MarkRun, Each, AreMarks, same_set, runs_of, policies, sets}
-use Rattle.resin_shadow.specs.Shadows.{line, place, places, policy_lines, set_line, run_line1, run_line2, set_place, written1, written2}
+use Rattle.resin_shadow.specs.Marks.{TextSet, Marks, Each, same_set, runs_of, policies, sets}
+use Rattle.resin_shadow.specs.Shadows.{line, place, places, policy_lines, set_line, run_line1, run_line2, written1, written2}
 use Rattle.resin_shadow.specs.Runs.{run_of, marks_of, Related, HasNumber, AreTextsAt, HasKind, IsKind, IsTable}
 use Rattle.resin_shadow.specs.Printed.{numbered, sets_met, texts_met, rising, policies_text, set_text, run_text1, run_text2}
 use Rattle.resin_shadow.proofs.Maximal.{runs_spelled}

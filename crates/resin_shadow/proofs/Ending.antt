@@ -1,6 +1,6 @@
 -- What calls that write and read end with.
-use Rattle.std.proofs.Common.{◌≡◌, ◌≢◌, ◌⊎◌, inl, inr, ℕ, zero, suc, ◌+◌, ◌^◌, ◌<◌, ◌≤◌, Bool, true, false, cond, List, [], ◌∷◌, ◌++◌, length, map, take, drop, get_or, Option, Some, None, Ok, Err, decimal, codes, refl, sym, ap, subst, ◌∙◌, arith, append_assoc}
-use Rattle.std.specs.Prelude.{not, ◌==◌, nat_eq, nat_lt, replicate, position}
+use Rattle.std.proofs.Common.{◌≡◌, ◌≢◌, inr, ℕ, zero, suc, ◌+◌, ◌^◌, ◌<◌, ◌≤◌, Bool, true, false, cond, List, [], ◌∷◌, ◌++◌, length, map, take, get_or, Option, Some, None, decimal, codes, refl, sym, ap, subst, ◌∙◌, arith, append_assoc}
+use Rattle.std.specs.Prelude.{not, nat_eq, nat_lt, replicate, position}
 use Rattle.std.specs.List.{fold, flat_map, position_or_len}
 use Rattle.std.specs.Option.{SomeIff, is_some}
 use Rattle.std.specs.BTreeSet.{insert_key}
@@ -9,14 +9,13 @@ use Rattle.std.proofs.lemmas.Bool.{true≢false}
 use Rattle.std.proofs.lemmas.Bool.Decides.{nat_tests}
 use Rattle.std.proofs.lemmas.List.{length-replicate}
 use Rattle.resin_frozen.proofs.Numbers.{from_some, none_some}
-use Rattle.resin_shadow.specs.declared.table.FrozenRun.{FrozenRun}
 use Rattle.resin_shadow.specs.declared.table.Table.{Table}
-use Rattle.resin_shadow.specs.Marks.{TextSet, Marks, MarkRun, AreMarks, policies}
+use Rattle.resin_shadow.specs.Marks.{TextSet, Marks}
 use Rattle.resin_shadow.specs.Shadows.{line, place, written1, written2, Spells}
 use Rattle.resin_shadow.specs.Runs.{HasNumber, AreTextsAt, marks_of, IsTable, Grows}
 use Rattle.resin_shadow.specs.Printed.{sets_met, texts_met, rising, policies_text, set_text, run_text1, run_text2}
 use Rattle.resin_shadow.specs.Readers.{longer, read1, read2, DecodesBy}
-use Rattle.resin_shadow.proofs.Kept.{count_of, related_push, texts_kept}
+use Rattle.resin_shadow.proofs.Kept.{related_push, texts_kept}
 use Rattle.resin_shadow.proofs.First_met.{fold-append}
 use Rattle.resin_shadow.proofs.Loops.{take_next}
 use Rattle.resin_shadow.proofs.Fronts.{longer_there}

@@ -1,7 +1,5 @@
 -- What is found where a text was read.
-use Rattle.std.proofs.Common.{◌≡◌, ◌≢◌, ◌⊎◌, inl, inr, ℕ, zero, suc, ◌^◌, ◌<◌, ◌+◌, List, [], ◌∷◌, length, map, codes, Option, Some, None, Ok, Err, Result, refl, sym, ap, subst, ◌∙◌, arith}
-use Rattle.std.specs.declared.vec.Vec.{Vec}
-use Rattle.std.specs.declared.alloc.AllocError.{AllocError}
+use Rattle.std.proofs.Common.{◌≡◌, inl, inr, ℕ, ◌^◌, ◌<◌, List, [], length, codes, Option, Some, None, Ok, Err, Result, refl, sym, ap, ◌∙◌}
 use Rattle.resin_frozen.specs.Reads.{Is}
 use Rattle.resin_frozen.specs.Reading.{and_then, literal, natural}
 use Rattle.resin_frozen.specs.declared.stop.Stop.{Stop}
@@ -10,7 +8,7 @@ use Rattle.resin_shadow.specs.Marks.{Marks, TextSet, AreMarks}
 use Rattle.resin_shadow.specs.Shadows.{Spells, written1, written2}
 use Rattle.resin_shadow.specs.Readers.{times, Turns, policy_step, set_step, run_step, run_set1, run_set2, Found, DecodesBy, read1, read2}
 use Rattle.resin_shadow.specs.Answers.{Decodes, Kept}
-use Rattle.resin_shadow.proofs.Ending.{other_text1, other_text2, none_read1, none_read2}
+use Rattle.resin_shadow.proofs.Ending.{other_text1, other_text2}
 
 -- ---- what is read behind the front of a text
 pub read1_runs : (x a b c d : List ℕ) (u : Unit {0}) (p r : ℕ) (t : List (List ℕ)) (start : Marks)

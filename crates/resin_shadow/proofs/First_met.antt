@@ -1,6 +1,6 @@
 -- The numbers that are met stand for the sets and the policies of the marks.
-use Rattle.std.proofs.Common.{◌≡◌, ℕ, zero, suc, ◌+◌, ◌<◌, Bool, true, false, cond, List, [], ◌∷◌, ◌++◌, length, map, slice_get, Some, None, refl, sym, ap, subst, ◌∙◌, arith, append-nil}
-use Rattle.std.specs.Prelude.{not, ◌||◌, ◌==◌, nat_eq, replicate, fold, Decides}
+use Rattle.std.proofs.Common.{◌≡◌, ℕ, zero, suc, ◌+◌, ◌<◌, Bool, true, false, cond, List, [], ◌∷◌, ◌++◌, length, map, slice_get, Some, refl, sym, ap, subst, ◌∙◌, arith, append-nil}
+use Rattle.std.specs.Prelude.{not, ◌||◌, ◌==◌, nat_eq, replicate, fold}
 use Rattle.std.specs.List.{filter, flat_map, list_any, position_or_len}
 use Rattle.std.specs.Str.{bytes_eq}
 use Rattle.std.proofs.lemmas.Bool.{true≢false, cond-true, cond-false, or_left, or_right}
@@ -8,7 +8,6 @@ use Rattle.std.proofs.lemmas.Bool.Decides.{nat_tests}
 use Rattle.std.proofs.lemmas.List.Concat.{flat_map-append}
 use Rattle.std.proofs.lemmas.Slice.Eq.{bytes_eq-Decides}
 use Rattle.indexmap.specs.IndexSet.{insert_key}
-use Rattle.resin_lstr.specs.Texts.{distinct}
 use Rattle.resin_lstr.proofs.Distinct.{distinct_more}
 use Rattle.resin_shadow.specs.declared.table.FrozenRun.{FrozenRun}
 use Rattle.resin_shadow.specs.declared.table.Table.{Table}
@@ -16,7 +15,7 @@ use Rattle.resin_shadow.specs.Marks.{TextSet, same_set, Marks, MarkRun, Each, sp
 use Rattle.resin_shadow.specs.Runs.{AreMaximal, run_of, marks_of, Related, HasNumber, AreTextsAt, HasKind, IsKind, IsTable}
 use Rattle.resin_shadow.specs.Printed.{numbered, with_number, with_set, sets_met, texts_met}
 use Rattle.resin_shadow.proofs.Maximal.{same_decides}
-use Rattle.resin_shadow.proofs.Kept.{each_map, related_push, one_text, one_number, kind_set, set_kind}
+use Rattle.resin_shadow.proofs.Kept.{related_push, one_text, one_number, kind_set, set_kind}
 
 pub number_from : (k l : ℕ) → nat_eq k l ≡ true → k ≡ l
 number_from k l h = grind (arith, nat_tests)

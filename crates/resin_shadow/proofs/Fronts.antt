@@ -1,22 +1,22 @@
 -- What is written is read from its front.
-use Rattle.std.proofs.Common.{◌≡◌, ◌≢◌, ◌⊎◌, inl, inr, ℕ, zero, suc, ◌+◌, ◌^◌, ◌<◌, ◌≤◌, Bool, true, false, cond, List, [], ◌∷◌, ◌++◌, length, map, slice_get, Option, Some, None, decimal, codes, refl, sym, ap, subst, ◌∙◌, arith, append_assoc, append-nil, length-append}
-use Rattle.std.specs.Prelude.{not, ◌&&◌, ◌==◌, nat_eq, nat_lt, replicate}
-use Rattle.std.specs.List.{list_all, list_any, flat_map, filter, position_or_len, before_first, after_first, slice_split, onto_first, join_with_byte}
+use Rattle.std.proofs.Common.{◌≡◌, ◌≢◌, ◌⊎◌, inl, inr, ℕ, zero, suc, ◌+◌, ◌^◌, ◌<◌, Bool, true, false, cond, List, [], ◌∷◌, ◌++◌, length, map, slice_get, Option, Some, None, decimal, codes, refl, sym, ap, subst, ◌∙◌, arith, append_assoc, append-nil, length-append}
+use Rattle.std.specs.Prelude.{not, ◌==◌, nat_eq, nat_lt, replicate}
+use Rattle.std.specs.List.{list_any, flat_map, filter, position_or_len, before_first, after_first, slice_split, onto_first, join_with_byte}
 use Rattle.std.specs.Str.{bytes_eq, all_ascii_digits}
 use Rattle.std.proofs.lemmas.Bool.{true≢false}
 use Rattle.std.proofs.lemmas.Bool.Decides.{nat_tests}
 use Rattle.std.proofs.lemmas.List.{length-replicate}
 use Rattle.std.proofs.lemmas.Fmt.{digits_decimal}
 use Rattle.std.proofs.lemmas.Str.Parse.{tells_all_ascii_digits, numerals_by_value}
-use Rattle.std.proofs.lemmas.List.Splits.{slice_split-cons_yes, slice_split-cons_no}
+use Rattle.std.proofs.lemmas.List.Splits.{slice_split-cons_no}
 use Rattle.resin_frozen.specs.Policies.{IsPolicyText}
-use Rattle.resin_frozen.specs.Reading.{Read, and_then, literal, cut, number, natural, front}
-use Rattle.resin_frozen.proofs.Numbers.{lacks, and_left, and_right, both, from_some, none_some, some_if, number-decimal}
+use Rattle.resin_frozen.specs.Reading.{Read, and_then, literal, cut, number, natural}
+use Rattle.resin_frozen.proofs.Numbers.{lacks, and_left, and_right, both, none_some, some_if, number-decimal}
 use Rattle.resin_frozen.proofs.Parts.{on, literal-front, cut-front}
 use Rattle.resin_frozen.proofs.One_text.{front_is}
 use Rattle.resin_shadow.specs.Marks.{TextSet, IsTextSet, Marks, MarkRun, Each, same_set, spelled}
-use Rattle.resin_shadow.specs.Shadows.{line, place, places_from, places, policy_lines, set_line, set_place, run_line1, run_line2}
-use Rattle.resin_shadow.specs.Runs.{Related, HasNumber, AreTextsAt, set_of}
+use Rattle.resin_shadow.specs.Shadows.{line, place, places_from, places, set_line, set_place, run_line1, run_line2}
+use Rattle.resin_shadow.specs.Runs.{HasNumber, AreTextsAt, set_of}
 use Rattle.resin_shadow.specs.Readers.{times, policy_step, words, text_told, texts_told, set_told, set_step, run_parts, run_set1, run_set2, longer, pushed, run_step}
 use Rattle.resin_shadow.proofs.Kept.{slice_last, slice_kept}
 use Rattle.resin_shadow.proofs.Places.{AreIn, chosen, chosen_made}

@@ -1,9 +1,9 @@
 -- What a table keeps says what its marks are.
-use Rattle.std.proofs.Common.{◌≡◌, ◌≢◌, Bool, true, false, cond, ℕ, zero, suc, ◌^◌, ◌<◌, ◌+◌, List, [], ◌∷◌, ◌++◌, length, map, slice_get, get_or, Some, None, refl, sym, ap, subst, ◌∙◌, arith}
-use Rattle.std.specs.Prelude.{replicate, nat_eq, Decides}
+use Rattle.std.proofs.Common.{◌≡◌, Bool, true, false, cond, ℕ, zero, suc, ◌^◌, ◌<◌, List, [], ◌∷◌, ◌++◌, length, map, slice_get, Some, refl, sym, ap, subst, ◌∙◌}
+use Rattle.std.specs.Prelude.{replicate}
 use Rattle.std.specs.List.{sum_by, list_any, IsDistinct, AllByRecursion}
 use Rattle.std.specs.Str.{bytes_eq}
-use Rattle.std.proofs.lemmas.Bool.{false_from_ne_true, true≢false}
+use Rattle.std.proofs.lemmas.Bool.{true≢false}
 use Rattle.std.proofs.lemmas.Slice.Eq.{bytes_eq-Decides}
 use Rattle.indexmap.specs.IndexSet.{insert_key}
 use Rattle.resin_frozen.specs.Policies.{IsPolicyText}
@@ -11,7 +11,7 @@ use Rattle.resin_frozen.proofs.Numbers.{from_some, none_some}
 use Rattle.resin_shadow.specs.declared.table.FrozenRun.{FrozenRun}
 use Rattle.resin_shadow.specs.declared.table.Kind.{Kind}
 use Rattle.resin_shadow.specs.declared.table.Table.{Table}
-use Rattle.resin_shadow.specs.Marks.{TextSet, IsTextSet, Marks, MarkRun, Each, AreMarks, spelled}
+use Rattle.resin_shadow.specs.Marks.{TextSet, IsTextSet, MarkRun, Each, AreMarks, spelled}
 use Rattle.resin_shadow.specs.Runs.{AreMaximal, run_of, marks_of, Related, HasNumber, AreTextsAt, HasKind, IsKind, IsKindOf, IsTable, Grows, Stays}
 use Rattle.resin_shadow.proofs.Maximal.{length_spelled}
 

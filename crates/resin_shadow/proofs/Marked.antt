@@ -1,5 +1,5 @@
 -- What the runs, the policies and the sets of marks are.
-use Rattle.std.proofs.Common.{◌≡◌, ◌≢◌, ◌⊎◌, inl, inr, ℕ, zero, suc, ◌+◌, ◌^◌, ◌<◌, ◌≤◌, Bool, true, false, cond, List, [], ◌∷◌, ◌++◌, length, slice_get, Some, refl, sym, ap, subst, ◌∙◌, arith, add-one}
+use Rattle.std.proofs.Common.{◌≡◌, ◌≢◌, ◌⊎◌, inl, inr, ℕ, suc, ◌+◌, ◌<◌, ◌≤◌, Bool, true, false, cond, List, [], ◌∷◌, ◌++◌, length, slice_get, Some, refl, sym, ap, subst, ◌∙◌, arith}
 use Rattle.std.specs.Prelude.{not, ◌||◌, ◌==◌, replicate, fold}
 use Rattle.std.specs.List.{filter, flat_map, list_any, position_or_len}
 use Rattle.std.specs.Str.{bytes_eq}
@@ -11,7 +11,7 @@ use Rattle.resin_frozen.specs.Policies.{IsPolicyText}
 use Rattle.resin_shadow.specs.Marks.{TextSet, IsTextSet, same_set, Marks, MarkRun, Each, AreMarks, with_byte, runs_of, spelled, policies, sets}
 use Rattle.resin_shadow.specs.Shadows.{place}
 use Rattle.resin_shadow.proofs.Maximal.{same_decides}
-use Rattle.resin_shadow.proofs.Kept.{each-append, each_key}
+use Rattle.resin_shadow.proofs.Kept.{each-append}
 use Rattle.resin_shadow.proofs.First_met.{met_set, Within, keeps, has_it, all_in, sets_are_met, policies_are_met, some_is_none}
 use Rattle.resin_shadow.proofs.Places.{Apart, AreIn}
 use Rattle.resin_shadow.proofs.Fronts.{IsWithin, HasPlace}

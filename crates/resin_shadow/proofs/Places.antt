@@ -1,6 +1,6 @@
 -- Places of the texts of a set in a table, and the set of the texts at places.
-use Rattle.std.proofs.Common.{◌≡◌, ℕ, zero, suc, ◌+◌, ◌<◌, Bool, true, false, cond, List, [], ◌∷◌, ◌++◌, length, map, slice_get, Some, None, refl, sym, ap, subst, ◌∙◌, arith, add-one}
-use Rattle.std.specs.Prelude.{not, ◌||◌, nat_eq, fold}
+use Rattle.std.proofs.Common.{◌≡◌, ℕ, ◌+◌, ◌<◌, Bool, true, false, cond, List, [], ◌∷◌, ◌++◌, map, refl, sym, ap, subst, ◌∙◌, arith}
+use Rattle.std.specs.Prelude.{not, ◌||◌, fold}
 use Rattle.std.specs.List.{filter, list_any, position_or_len, AllByRecursion}
 use Rattle.std.specs.List.Sorted.{IsStrictlySortedBy}
 use Rattle.std.specs.Str.{bytes_eq}
@@ -8,15 +8,14 @@ use Rattle.std.specs.BTreeSet.{insert_key}
 use Rattle.std.specs.Ordering.{nat_cmp, match_ordering, ordering_reverse}
 use Rattle.std.specs.declared.cmp.Ordering.{Ordering}
 use Rattle.std.specs.declared.cmp.Ordering.TheVariants.{Less, Equal, Greater}
-use Rattle.std.specs.Cmp.{IsTotalOrder, nat_cmp_is}
+use Rattle.std.specs.Cmp.{nat_cmp_is}
 use Rattle.std.specs.Cmp.Lexicographic.{slice_cmp}
 use Rattle.std.proofs.lemmas.Cmp.{nat_list_cmp_total}
 use Rattle.std.proofs.lemmas.Bool.{true≢false, or_left, or_right}
 use Rattle.std.proofs.lemmas.Slice.Eq.{bytes_eq-Decides}
-use Rattle.indexmap.specs.IndexSet as indexed
-use Rattle.resin_shadow.specs.Marks.{TextSet, IsTextSet, Each}
+use Rattle.resin_shadow.specs.Marks.{TextSet, IsTextSet}
 use Rattle.resin_shadow.specs.Shadows.{place, places_from, places}
-use Rattle.resin_shadow.specs.Runs.{HasNumber, AreTextsAt, set_of}
+use Rattle.resin_shadow.specs.Runs.{set_of}
 
 -- an item that is there, or not, behind others
 any-append : (x : List ℕ) (s : TextSet) (t : List ℕ) → list_any (bytes_eq x) (s ++ t ∷ []) ≡ (list_any (bytes_eq x) s || bytes_eq x t)

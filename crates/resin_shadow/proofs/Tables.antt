@@ -1,18 +1,17 @@
 -- What calls leave a table.
-use Rattle.std.proofs.Common.{◌≡◌, ◌≢◌, ℕ, zero, suc, ◌+◌, ◌-◌, ◌^◌, ◌<◌, ◌≤◌, Bool, true, false, cond, List, [], ◌∷◌, ◌++◌, length, map, slice_get, get_or, Some, None, refl, sym, ap, subst, ◌∙◌, arith, append_assoc, length-append, slice_set}
+use Rattle.std.proofs.Common.{◌≡◌, ◌≢◌, ℕ, zero, suc, ◌+◌, ◌-◌, ◌^◌, ◌<◌, ◌≤◌, Bool, true, false, List, [], ◌∷◌, ◌++◌, length, map, slice_get, get_or, Some, refl, sym, ap, subst, ◌∙◌, arith, append_assoc, length-append, slice_set}
 use Rattle.std.specs.Prelude.{nat_eq, replicate}
 use Rattle.std.specs.List.{sum_by, IsDistinct}
 use Rattle.std.specs.Str.{bytes_eq}
 use Rattle.std.proofs.lemmas.Bool.{true≢false}
 use Rattle.std.proofs.lemmas.Slice.Eq.{bytes_eq-Decides}
 use Rattle.std.proofs.lemmas.List.Sums.{sum_by-append, sum_by-cons}
-use Rattle.std.proofs.lemmas.List.{length-replicate}
 use Rattle.resin_frozen.specs.Policies.{IsPolicyText}
 use Rattle.resin_frozen.proofs.Numbers.{from_some, none_some}
 use Rattle.resin_shadow.specs.declared.table.FrozenRun.{FrozenRun}
 use Rattle.resin_shadow.specs.declared.table.Kind.{Kind}
 use Rattle.resin_shadow.specs.declared.table.Table.{Table}
-use Rattle.resin_shadow.specs.Marks.{TextSet, IsTextSet, MarkRun, Each, spelled}
+use Rattle.resin_shadow.specs.Marks.{TextSet, MarkRun, Each, spelled}
 use Rattle.resin_shadow.specs.Runs.{AreMaximal, run_of, marks_of, HasNumber, AreTextsAt, HasKind, IsKind, IsKindOf, IsTable, Grows, Stays}
 use Rattle.resin_shadow.specs.Ends.{EndsApart, EndsWith, Ends}
 use Rattle.resin_shadow.proofs.First_met.{number_from, number_same}

@@ -1,6 +1,5 @@
 -- How loops that read end.
-use Rattle.std.proofs.Common.{◌≡◌, ℕ, ◌<◌, List, [], map, Some, None, Err, sym, ◌∙◌}
-use Rattle.std.specs.declared.vec.Vec.{Vec}
+use Rattle.std.proofs.Common.{◌≡◌, ℕ, ◌<◌, List, Err, sym, ◌∙◌}
 use Rattle.resin_frozen.specs.Reading.{Read}
 use Rattle.resin_frozen.specs.Reads.{Reads}
 use Rattle.resin_frozen.specs.declared.stop.Stop.{Stop}

@@ -1,13 +1,11 @@
 -- A text that is written is read, so it spells one list of sets.
-use Rattle.std.proofs.Common.{◌≡◌, ◌≢◌, ◌⊎◌, inl, inr, ℕ, zero, suc, ◌+◌, ◌^◌, ◌<◌, ◌≤◌, Bool, true, false, cond, List, [], ◌∷◌, ◌++◌, length, slice_get, Some, None, decimal, codes, refl, sym, ap, subst, ◌∙◌, arith, append_assoc, append-nil, length-append}
+use Rattle.std.proofs.Common.{◌≡◌, ◌≢◌, inl, inr, ℕ, ◌+◌, ◌^◌, ◌<◌, ◌≤◌, Bool, true, false, cond, List, [], ◌∷◌, ◌++◌, length, Some, decimal, codes, refl, sym, ap, subst, ◌∙◌, arith, append_assoc, append-nil, length-append}
 use Rattle.std.specs.Prelude.{◌==◌, replicate}
-use Rattle.std.specs.List.{flat_map, join_with_byte}
-use Rattle.std.proofs.lemmas.Bool.{true≢false}
+use Rattle.std.specs.List.{flat_map}
 use Rattle.resin_frozen.specs.Policies.{IsPolicyText}
-use Rattle.resin_frozen.specs.Reading.{and_then, literal, natural}
 use Rattle.resin_frozen.proofs.Numbers.{from_some}
 use Rattle.resin_frozen.proofs.Parts.{literal-front}
-use Rattle.resin_shadow.specs.Marks.{TextSet, IsTextSet, Marks, MarkRun, Each, AreMarks, runs_of, spelled, policies, sets}
+use Rattle.resin_shadow.specs.Marks.{TextSet, Marks, AreMarks, runs_of, spelled, policies, sets}
 use Rattle.resin_shadow.specs.Shadows.{line, policy_lines, set_line, run_line1, run_line2, written1, written2, Spells}
 use Rattle.resin_shadow.specs.Readers.{times, policy_step, set_step, run_step, run_set1, run_set2, read1, read2}
 use Rattle.resin_shadow.specs.Laws.{SpellsOne}

@@ -1,5 +1,5 @@
 -- How the policies of a text's bytes are held: maximal runs, and tables of their sets and texts.
-use Rattle.std.specs.Prelude.{◌≡◌, ◌≢◌, ℕ, ◌<◌, ◌^◌, List, [], ◌∷◌, ◌++◌, length, map, nat_eq, slice_get, Some}
+use Rattle.std.specs.Prelude.{◌≡◌, ◌≢◌, ℕ, ◌<◌, ◌^◌, List, [], ◌∷◌, ◌++◌, map, slice_get, Some}
 use Rattle.std.specs.List.{fold, sum_by, IsDistinct}
 use Rattle.std.specs.Str.{bytes_eq}
 use Rattle.std.specs.BTreeSet.{insert_key}
@@ -9,7 +9,7 @@ use Rattle.resin_frozen.specs.Policies.{IsPolicyText}
 use Rattle.resin_shadow.specs.declared.table.FrozenRun.{FrozenRun}
 use Rattle.resin_shadow.specs.declared.table.Kind.{Kind}
 use Rattle.resin_shadow.specs.declared.table.Table.{Table}
-use Rattle.resin_shadow.specs.Marks.{TextSet, IsTextSet, Marks, MarkRun, Each, same_set, runs_of, spelled}
+use Rattle.resin_shadow.specs.Marks.{TextSet, IsTextSet, Marks, MarkRun, Each, runs_of, spelled}
 
 -- the set of the texts of a list
 abbrev pub set_of : List (List ℕ) → TextSet

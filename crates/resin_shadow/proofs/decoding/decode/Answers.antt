@@ -1,4 +1,3 @@
-use Rattle.std.proofs.Common.{◌≡◌}
 use Rattle.resin_shadow.proofs.Ending.{plain_decoded}
 use Rattle.resin_shadow.proofs.decoding.decode.Goals as goal
 

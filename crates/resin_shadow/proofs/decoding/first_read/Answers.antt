@@ -1,4 +1,4 @@
-use Rattle.std.proofs.Common.{◌≡◌, sym, ◌∙◌}
+use Rattle.std.proofs.Common.{sym, ◌∙◌}
 use Rattle.resin_shadow.proofs.Ending.{other_length1}
 use Rattle.resin_shadow.proofs.Finding.{kept1}
 use Rattle.resin_shadow.proofs.decoding.first_read.Goals as goal

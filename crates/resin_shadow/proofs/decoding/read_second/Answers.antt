@@ -1,4 +1,4 @@
-use Rattle.std.proofs.Common.{◌≡◌, List, [], map, sym, ap, Some, ◌∙◌}
+use Rattle.std.proofs.Common.{List, map, sym, ap, Some, ◌∙◌}
 use Rattle.std.proofs.lemmas.Result.{err_from_is_err_and}
 use Rattle.resin_frozen.proofs.Parts.{on}
 use Rattle.resin_shadow.specs.declared.table.Kind.{Kind}

@@ -1,4 +1,4 @@
-use Rattle.std.proofs.Common.{◌≡◌, sym, ◌∙◌}
+use Rattle.std.proofs.Common.{sym, ◌∙◌}
 use Rattle.resin_shadow.proofs.Ending.{other_length2}
 use Rattle.resin_shadow.proofs.Finding.{kept2}
 use Rattle.resin_shadow.proofs.decoding.second_read.Goals as goal

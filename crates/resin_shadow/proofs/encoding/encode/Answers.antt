@@ -1,4 +1,4 @@
-use Rattle.std.proofs.Common.{◌≡◌, length, sym, ap, ◌∙◌}
+use Rattle.std.proofs.Common.{length, sym, ap, ◌∙◌}
 use Rattle.std.proofs.lemmas.Bool.{true≢false}
 use Rattle.resin_shadow.proofs.Ending.{none2, some2}
 use Rattle.resin_shadow.proofs.encoding.encode.Goals as goal

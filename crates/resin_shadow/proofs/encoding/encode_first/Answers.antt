@@ -1,4 +1,4 @@
-use Rattle.std.proofs.Common.{◌≡◌, length, sym, ap, ◌∙◌}
+use Rattle.std.proofs.Common.{length, sym, ap, ◌∙◌}
 use Rattle.std.proofs.lemmas.Bool.{true≢false}
 use Rattle.resin_shadow.proofs.Ending.{none1, some1}
 use Rattle.resin_shadow.proofs.encoding.encode_first.Goals as goal

@@ -1,10 +1,5 @@
 use Rattle.resin_shadow.proofs.Versions.{has_one_text, has_one_version}
 use Rattle.resin_shadow.proofs.Whole.{spells_one}
-use Rattle.resin_shadow.proofs.Encoded.{whole2}
-use Rattle.resin_shadow.proofs.Loops.{turn}
-use Rattle.resin_shadow.proofs.Tables.{last_longer}
-use Rattle.resin_shadow.proofs.Turning.{turning_fails}
-use Rattle.resin_shadow.proofs.Ending.{some2}
 use Rattle.resin_shadow.proofs.laws.shadow_laws.Goals as goal
 
 pub returns-clause-text : goal.returns-clause-text

@@ -1,4 +1,4 @@
-use Rattle.std.proofs.Common.{◌≡◌, sym, ap, ◌∙◌, take}
+use Rattle.std.proofs.Common.{sym, ap, ◌∙◌, take}
 use Rattle.std.specs.BTreeSet.{insert_key}
 use Rattle.std.specs.Ordering.{nat_cmp}
 use Rattle.resin_shadow.specs.Printed.{rising}

@@ -1,4 +1,3 @@
-use Rattle.std.proofs.Common.{◌≡◌}
 use Rattle.resin_shadow.specs.Runs.{marks_of}
 use Rattle.resin_shadow.proofs.Kept.{count_of}
 use Rattle.resin_shadow.proofs.Ending.{longer_over, longer_within, sum_over, sum_within}

@@ -1,4 +1,4 @@
-use Rattle.std.proofs.Common.{◌≡◌, ◌-◌, ◌+◌, arith, ◌∙◌}
+use Rattle.std.proofs.Common.{◌-◌, ◌+◌, arith, ◌∙◌}
 use Rattle.resin_shadow.specs.Runs.{marks_of}
 use Rattle.resin_shadow.specs.Readers.{run_set1, run_step}
 use Rattle.resin_shadow.proofs.Loops.{turn}

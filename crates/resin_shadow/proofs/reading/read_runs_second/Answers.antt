@@ -1,4 +1,4 @@
-use Rattle.std.proofs.Common.{◌≡◌, ◌-◌, ◌+◌, [], map, ap, arith, ◌∙◌}
+use Rattle.std.proofs.Common.{◌≡◌, ◌-◌, ◌+◌, map, ap, arith, ◌∙◌}
 use Rattle.resin_shadow.specs.Runs.{marks_of, set_of}
 use Rattle.resin_shadow.specs.Readers.{times, run_set2, run_step}
 use Rattle.resin_shadow.proofs.Kept.{kinds_kept}

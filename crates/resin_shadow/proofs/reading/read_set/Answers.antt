@@ -1,4 +1,4 @@
-use Rattle.std.proofs.Common.{◌≡◌, ◌∷◌, [], sym, subst}
+use Rattle.std.proofs.Common.{◌∷◌, [], sym, subst}
 use Rattle.resin_shadow.specs.Marks.{Each}
 use Rattle.resin_shadow.specs.Runs.{IsKindOf}
 use Rattle.resin_shadow.proofs.Kept.{kinds_kept, each-append}

@@ -1,4 +1,4 @@
-use Rattle.std.proofs.Common.{◌≡◌, sym, subst, ap, ◌∙◌, length}
+use Rattle.std.proofs.Common.{sym, subst, ap, ◌∙◌, length}
 use Rattle.resin_shadow.specs.Marks.{AreMarks}
 use Rattle.resin_shadow.proofs.Kept.{count_of, marks_of_table}
 use Rattle.resin_shadow.proofs.runs.FrozenRuns.len.Goals as goal

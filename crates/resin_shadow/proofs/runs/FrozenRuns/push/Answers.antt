@@ -1,4 +1,4 @@
-use Rattle.std.proofs.Common.{◌≡◌, ap, length, sym, ◌∙◌, arith}
+use Rattle.std.proofs.Common.{ap, length, arith}
 use Rattle.resin_shadow.proofs.Kept.{count_of}
 use Rattle.resin_shadow.proofs.runs.FrozenRuns.push.Goals as goal
 

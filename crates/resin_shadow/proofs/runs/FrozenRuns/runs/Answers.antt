@@ -1,4 +1,4 @@
-use Rattle.std.proofs.Common.{◌≡◌, map, sym, ap, ◌∙◌}
+use Rattle.std.proofs.Common.{map, sym, ap, ◌∙◌}
 use Rattle.resin_shadow.specs.Marks.{runs_of}
 use Rattle.resin_shadow.specs.Runs.{run_of}
 use Rattle.resin_shadow.proofs.Maximal.{runs_spelled}

@@ -1,4 +1,4 @@
-use Rattle.std.proofs.Common.{◌≡◌, nat_eq, refl}
+use Rattle.std.proofs.Common.{nat_eq, refl}
 use Rattle.std.specs.Cmp.Lexicographic.{pointwise}
 use Rattle.resin_shadow.proofs.Kept.{grows_key}
 use Rattle.resin_shadow.proofs.Tables.{more_sets, same_table}

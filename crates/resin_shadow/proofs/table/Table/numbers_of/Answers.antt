@@ -1,4 +1,4 @@
-use Rattle.std.proofs.Common.{◌≡◌, ◌∙◌}
+use Rattle.std.proofs.Common.{◌∙◌}
 use Rattle.resin_shadow.proofs.Kept.{stays_more}
 use Rattle.resin_shadow.proofs.Ending.{numbers_next}
 use Rattle.resin_shadow.proofs.table.Table.numbers_of.Goals as goal

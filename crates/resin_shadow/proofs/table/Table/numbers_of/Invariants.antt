@@ -1,5 +1,5 @@
 -- The texts before the index have these numbers.
-use Rattle.std.proofs.Common.{◌≡◌, take}
+use Rattle.std.proofs.Common.{take}
 use Rattle.resin_shadow.specs.Runs.{IsTable, AreTextsAt, Stays}
 use Rattle.resin_shadow.proofs.table.Table.numbers_of.Given as goal
 

@@ -1,4 +1,4 @@
-use Rattle.std.proofs.Common.{◌≡◌, refl, sym, subst}
+use Rattle.std.proofs.Common.{refl, sym, subst}
 use Rattle.resin_shadow.specs.Runs.{IsKind}
 use Rattle.resin_shadow.specs.Ends.{EndsApart}
 use Rattle.resin_shadow.proofs.Tables.{pushed_table}
