@@ -1,0 +1,14 @@
+pub mod Maximal
+pub mod Kept
+pub mod Versions
+pub mod First_met
+pub mod Places
+pub mod Fronts
+pub mod Marked
+pub mod Whole
+pub mod Encoded
+pub mod Loops
+pub mod Tables
+pub mod Turning
+pub mod Ending
+pub mod Finding
