@@ -53,22 +53,26 @@ returns g c =
     let w = world s.new.run.machine f' t' s.new.run.calls in
     let path : c.as_slice-2.result.now ≡ path_of c.args.r.now.target = c.as_slice-2.ensures.value ∙ c.in_ok-path.ensures ∙ ap path_of c.as_slice.ensures in
     let path-3 : c.as_slice-3.result.now ≡ path_of c.args.r.now.target = c.as_slice-3.ensures.value ∙ sym c.as_slice-2.ensures.value ∙ path in
+    -- the request has a machine of its own, and its outcome is made of that
+    let runs = rw c.replace-idle.ensures.after at s.ensures in
+    let made = rw c.replace-machine.ensures.value at c.outcome_for.ensures.outcome in
+    let lawful = rw c.replace-machine.ensures.value at c.outcome_for.ensures.lawful in
     let begins : c.in_ok-machine.machine ≡ new_state c.args.site.now c.args.number = c.in_ok-machine.ensures.value ∙ ap (λ n. new_state n c.args.number) c.fuel.ensures in
-    let d = as_asked c.args.site.now c.args.number c.args.r.now c.as_slice-2.result.now c.in_ok-inputs.inputs c.in_ok-machine.machine f t c.args.run.now.calls s.result w path c.in_ok-inputs.ensures begins s.ensures in
+    let d = as_asked c.args.site.now c.args.number c.args.r.now c.as_slice-2.result.now c.in_ok-inputs.inputs c.in_ok-machine.machine f t c.args.run.now.calls s.result w path c.in_ok-inputs.ensures begins runs in
     let is : IfOk c.outcome_for.result (λ o. o ≡ outcome (path_of c.args.r.now.target) (is_head c.args.r.now.method) s.result s.new.run.machine) =
     subst (λ h. IfOk c.outcome_for.result (λ o. o ≡ outcome (path_of c.args.r.now.target) h s.result s.new.run.machine)) c.is_head.ensures
-    (subst (λ p. IfOk c.outcome_for.result (λ o. o ≡ outcome p c.is_head.result s.result s.new.run.machine)) path-3 c.outcome_for.ensures.outcome) in
-    let up = made_up u w (done s.ensures).goes in
-    let b = (done s.ensures).blames in
+    (subst (λ p. IfOk c.outcome_for.result (λ o. o ≡ outcome p c.is_head.result s.result s.new.run.machine)) path-3 made) in
+    let up = made_up u w (done runs).goes in
+    let b = (done runs).blames in
     record {
       site = refl;
       numbered = numbered_after s.result u w up b c.requires;
       later = passes s.result u w up b;
       served = λ K k. served_end c.args.site.now c.args.number c.args.r.now f f' t t' c.args.run.now.calls s.new.run.calls s.new.run.machine s.result c.requires d K k c.outcome_for.result is c.outcome_for.ensures.memory;
-      lawful = lawful_end c.args.site.now c.args.number _ c.in_ok-machine.machine s.new.run.machine f f' t t' c.args.run.now.calls s.new.run.calls s.result c.outcome_for.result begins c.in_ok-machine.ensures.tied s.ensures
-          c.outcome_for.ensures.memory c.outcome_for.ensures.lawful;
+      lawful = lawful_end c.args.site.now c.args.number _ c.in_ok-machine.machine s.new.run.machine f f' t t' c.args.run.now.calls s.new.run.calls s.result c.outcome_for.result begins c.in_ok-machine.ensures.tied runs
+          c.outcome_for.ensures.memory lawful;
       ends = ends_end (path_of c.args.r.now.target) (is_head c.args.r.now.method) s.new.run.machine u w s.result c.outcome_for.result is c.outcome_for.ensures.memory b;
       blames = blames s.result u w b;
       counted = counted s.result u w b;
-      told = ((done s.ensures).goes.calls, tells u w c.requires (done s.ensures).goes);
+      told = ((done runs).goes.calls, tells u w c.requires (done runs).goes);
     }
