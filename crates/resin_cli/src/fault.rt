@@ -8,7 +8,7 @@ use thiserror::Error;
 /// Why the program ends with another status than 0.
 #[derive(Debug, Drop, Error)]
 pub(crate) enum Fault {
-    #[error("usage: serve [--fuel N] | sample N")]
+    #[error("usage: serve [--fuel N] | record [--fuel N] | audit | sample N")]
     Usage,
     #[error("bad trace at {offset}")]
     BadTrace { offset: u64 },
@@ -22,6 +22,8 @@ pub(crate) enum Fault {
     Memory,
     #[error("not built yet")]
     NotYet,
+    #[error("audit refused")]
+    AuditRefused,
 }
 
 impl Fault {
@@ -36,6 +38,7 @@ impl Fault {
             Status::TraceTooLong => Some(Fault::TraceTooLong),
             Status::Memory => Some(Fault::Memory),
             Status::NotYet => Some(Fault::NotYet),
+            Status::AuditRefused => Some(Fault::AuditRefused),
         }
     }
 
@@ -54,6 +57,7 @@ impl Fault {
             Fault::TraceTooLong => Status::TraceTooLong,
             Fault::Memory => Status::Memory,
             Fault::NotYet => Status::NotYet,
+            Fault::AuditRefused => Status::AuditRefused,
         }
     }
 }

@@ -1,4 +1,5 @@
-//! The program: serves the trace on standard input over the folder `site/`, and writes the answers to standard output.
+//! The program: serves the trace on standard input over the folder `site/`, and writes the answers to standard output; or audits the journal file of a
+//! run, which stands on standard input.
 #![tactic(auto)]
 
 mod fault;
@@ -25,13 +26,26 @@ fn appended(rt: &HostRuntime, path: &str) -> Result<File, Fault> {
     Ok(OpenOptions::new().append(true).create(true).open(rt, path)?)
 }
 
+// A file that is made anew.
+fn made_anew(rt: &HostRuntime, path: &str) -> Result<File, Fault> {
+    Ok(File::create(rt, path)?)
+}
+
+// The file of the log: `journal.log`, made anew, where the words begin with `record`, else `denial.log`.
+fn log_file(rt: &HostRuntime, words: &[String]) -> Result<File, Fault> {
+    match words.first() {
+        Some(word) if word.as_str() == "record" => made_anew(rt, "journal.log"),
+        _ => appended(rt, "denial.log"),
+    }
+}
+
 // Opens the outside in its order, whatever the words are, and serves.
 fn run(rt: &HostRuntime) -> Result<Ended, Fault> {
     let alloc = rt.alloc();
     let words = words(rt)?;
     let mut trace = StdSource::new(rt.stdin());
     let mut out = StdSink::new(rt.stdout());
-    let mut log = StdSink::new(appended(rt, "denial.log")?);
+    let mut log = StdSink::new(log_file(rt, &words)?);
     let mut mail = StdSink::new(appended(rt, "outbox.txt")?);
     let mut files = Folder::new(alloc, rt.clone()?, "site")?;
     let mut tables = CalmTables::new(alloc);

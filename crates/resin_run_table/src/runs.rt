@@ -99,6 +99,7 @@ pub fn status_of(word: &str) -> Status {
         "write_fault" => Status::WriteFault,
         "trace_too_long" => Status::TraceTooLong,
         "memory" => Status::Memory,
+        "audit_refused" => Status::AuditRefused,
         _ => Status::NotYet,
     }
 }
@@ -115,6 +116,7 @@ pub fn push_status(out: &mut String, status: Status) -> Result<(), AllocError> {
         Status::TraceTooLong => out.push_str("trace too long")?,
         Status::Memory => out.push_str("memory")?,
         Status::NotYet => out.push_str("not yet")?,
+        Status::AuditRefused => out.push_str("audit refused")?,
     }
     write!(out, ", code {code}")
 }

@@ -4,11 +4,10 @@ use Rattle.std.specs.Prelude.{◌==◌, if◌then◌else◌, ⊤}
 use Rattle.std.proofs.lemmas.Bool.Decides.{nat_tests}
 use Rattle.resin_site.specs.Keeping.{St, Store, WhereTold}
 use Rattle.resin_http.specs.Stream.{Answer, answers}
-use Rattle.resin_site.specs.Laws.{Obeys}
 use Rattle.resin_trace.specs.declared.event.TraceEvent.{TraceEvent}
 use Rattle.resin_trace.specs.declared.event.TraceEvent.TheVariants.{Piece, End}
 use Rattle.resin_serve.specs.declared.give.Given.TheVariants.{Whole}
-use Rattle.resin_serve.specs.Meaning.{Meaning, Owed, Reply, added, order, AllObey}
+use Rattle.resin_serve.specs.Meaning.{Meaning, Owed, Reply, added, order, IsLawfulAnswer, AllObey}
 use Rattle.resin_serve.specs.Ran.{World, Gained, IsState, Called, Through, Ran}
 use Rattle.resin_serve.specs.Top.{events}
 use Rattle.resin_serve.specs.Cutting.{all_told, asked_on, AreOn, AskSame, SameRuns, OneConnection}
@@ -24,7 +23,7 @@ obey_same R K s n (x ∷ xs) (y ∷ ys) e h =
     let head : (x.conn, x.asked) ≡ (y.conn, y.asked) = cc in
     let tail : all_told xs ≡ all_told ys = cc in
     let same : R K s n x.conn x.asked ≡ R K s n y.conn y.asked = ap (λ (p : ℕ × Answer). R K s n p.0 p.1) head in (
-      subst (λ (r : Reply). Obeys n r.is) same h.0,
+      subst (IsLawfulAnswer n) same h.0,
       subst (λ (r : Reply). AllObey R K r.after (n + 1) ys) same (obey_same R K (R K s n x.conn x.asked).after (n + 1) xs ys tail h.1),
     )
 

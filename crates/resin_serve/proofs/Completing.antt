@@ -7,8 +7,9 @@ use Rattle.resin_trace.specs.declared.reader.TraceFault.TheVariants.{Bad, TooLon
 use Rattle.resin_trace.specs.Verdicts.{IsGood}
 use Rattle.resin_trace.proofs.Verdicts_of.{one_end}
 use Rattle.resin_serve.specs.declared.status.Status.{Status}
-use Rattle.resin_serve.specs.declared.status.Status.TheVariants.{Usage, BadTrace, ReadFault, WriteFault, TraceTooLong, NotYet}
+use Rattle.resin_serve.specs.declared.status.Status.TheVariants.{Usage, BadTrace, ReadFault, WriteFault, TraceTooLong, NotYet, AuditRefused}
 use Rattle.resin_serve.specs.declared.status.Status.TheVariants.{Ok as StatusOk, Memory as StatusMemory}
+use Rattle.resin_serve.specs.declared.logging.Logging.{Logging}
 use Rattle.resin_serve.specs.Asked.{meaning}
 use Rattle.resin_serve.specs.Meaning.{Meaning}
 use Rattle.resin_serve.specs.Ran.{World}
@@ -31,6 +32,7 @@ completes WriteFault R K T U old new s s' r r' k k' run g (inr (inr c)) a calm =
 completes TraceTooLong R K T U old new s s' r r' k k' run g c a calm = let e = one_end T (Ok tt) (Err TooLong) g run.0 in cc
 completes StatusMemory R K T U old new s s' r r' k k' run g c a calm = tt
 completes NotYet R K T U old new s s' r r' k k' run g c a calm = tt
+completes AuditRefused R K T U old new s s' r r' k k' run g c a calm = run
 
 -- a count that didn't rise stands where it stood, below its last value
 stays : (a b : ℕ) → a ≤ b → (Rose a b → ⊥) → (b ≤ a) × (b < last_count)
@@ -51,8 +53,9 @@ no_fails k k' h e f t =
 pub runs_nothing : (R : Meaning) (K T : List ℕ) (now : Option (List ℕ)) (w : World) → now ≡ Some T → RunsFrom StatusMemory R K T now w w
 runs_nothing R K T now w told = record { taken = []; left = T; told = told; front = refl; runs = λ records rest r. ran_stop _ R K 1 _ w }
 
-pub runs_with : (status : Status) (a b : ℕ) (K T : List ℕ) (now : Option (List ℕ)) (old new : World) → a ≡ b → RunsFrom status (meaning a) K T now old new → RunsFrom status (meaning b) K T now old new
-runs_with status a b K T now old new e r = subst (λ n. RunsFrom status (meaning n) K T now old new) e r
+pub runs_with : (status : Status) (logging : Logging) (a b : ℕ) (K T : List ℕ) (now : Option (List ℕ)) (old new : World) → a ≡ b
+    → RunsFrom status (meaning logging a) K T now old new → RunsFrom status (meaning logging b) K T now old new
+runs_with status logging a b K T now old new e r = subst (λ n. RunsFrom status (meaning logging n) K T now old new) e r
 
 pub some_same : (a b : ℕ) → Some a ≡ Some b → a ≡ b
 some_same a b e = cc

@@ -39,10 +39,15 @@ tags k xs = map {B = ℕ × ℕ} (λ x. (k, x)) xs
 part_three : (k : ℕ) (a b c : List ℕ) → part k (three a b c) ≡ (part k (tags 0 a) ++ part k (tags 1 b)) ++ part k (tags 2 c)
 part_three k a b c = part_append k (tags 0 a ++ tags 1 b) _ ∙ ap (λ l. l ++ part k (tags 2 c)) (part_append k (tags 0 a) _)
 
+-- what the log gets of three texts
+pub part_log : (a b c : List ℕ) → part 0 (three a b c) ≡ a
+part_log a b c =
+    part_three 0 a b c ∙ ap (λ l. (l ++ part 0 (tags 1 b)) ++ part 0 (tags 2 c)) (part_same 0 refl a)
+    ∙ ap (λ l. (a ++ l) ++ part 0 (tags 2 c)) (part_other 1 0 refl b) ∙ ap (λ l. (a ++ []) ++ l) (part_other 2 0 refl c) ∙ append-nil (a ++ []) ∙ append-nil a
+
 gained_three : (old new : World) (a b c : List ℕ) → Grew old.log new.log a → Grew old.mail new.mail b → Grew old.out new.out c → Gained old new (three a b c)
 gained_three old new a b c x y z =
-    let e0 : part 0 (three a b c) ≡ a = part_three 0 a b c ∙ ap (λ l. (l ++ part 0 (tags 1 b)) ++ part 0 (tags 2 c)) (part_same 0 refl a)
-    ∙ ap (λ l. (a ++ l) ++ part 0 (tags 2 c)) (part_other 1 0 refl b) ∙ ap (λ l. (a ++ []) ++ l) (part_other 2 0 refl c) ∙ append-nil (a ++ []) ∙ append-nil a in
+    let e0 : part 0 (three a b c) ≡ a = part_log a b c in
     let e1 : part 1 (three a b c) ≡ b = part_three 1 a b c ∙ ap (λ l. (l ++ part 1 (tags 1 b)) ++ part 1 (tags 2 c)) (part_other 0 1 refl a)
     ∙ ap (λ l. l ++ part 1 (tags 2 c)) (part_same 1 refl b) ∙ ap (λ l. b ++ l) (part_other 2 1 refl c) ∙ append-nil b in
     let e2 : part 2 (three a b c) ≡ c = part_three 2 a b c ∙ ap (λ l. (l ++ part 2 (tags 1 b)) ++ part 2 (tags 2 c)) (part_other 0 2 refl a)

@@ -16,3 +16,6 @@ pub mod Cuttings
 pub mod Lives
 pub mod Alike
 pub mod Marking
+pub mod Telling
+pub mod Recording
+pub mod Ends

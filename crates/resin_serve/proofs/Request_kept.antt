@@ -7,7 +7,7 @@ use Rattle.std.proofs.lemmas.Bool.Decides.{nat_tests}
 use Rattle.resin_base.specs.Causes.{TellsMore, Counted, is_listed, last_count}
 use Rattle.resin_base.specs.Numbering.{RiseWithin}
 use Rattle.resin_program.specs.Programs.{KeeperCall}
-use Rattle.resin_program.specs.Runs.{is_on, failures}
+use Rattle.resin_program.specs.Runs.{failures}
 use Rattle.resin_site.specs.Keeping.{Faults, faults, Blames, Later, answers, Tells}
 use Rattle.resin_serve.specs.Kept.{Call, failed_after, of_files, of_tables, keepers, Kept}
 

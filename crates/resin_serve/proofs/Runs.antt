@@ -1,11 +1,11 @@
 -- Runs go on.
-use Rattle.std.proofs.Common.{◌≡◌, ℕ, ◌+◌, ◌≤◌, true, false, cond, nat_eq, List, [], ◌∷◌, ◌++◌, length, Option, Some, None, refl, sym, ap, ◌∙◌, arith, append_assoc, length-append, inl, inr, subst}
+use Rattle.std.proofs.Common.{◌≡◌, ℕ, ◌+◌, true, false, cond, nat_eq, List, [], ◌∷◌, ◌++◌, length, Option, Some, None, refl, sym, ap, ◌∙◌, arith, append_assoc, length-append, inl, inr, subst}
 use Rattle.std.specs.Prelude.{⊤}
 use Rattle.std.proofs.lemmas.List.{append-nil}
 use Rattle.resin_serve.specs.declared.give.Given.{Given}
 use Rattle.resin_serve.specs.declared.give.Given.TheVariants.{Whole, Fault, Memory, NotYet}
 use Rattle.resin_site.specs.Keeping.{Store, St, WhereTold, Later, Tells}
-use Rattle.resin_serve.specs.Meaning.{Meaning, Owed, tagged, reply, bytes_of, after_of, calls_of, AllObey}
+use Rattle.resin_serve.specs.Meaning.{Meaning, Owed, tagged, reply, bytes_of, after_of, calls_of, IsLawfulAnswer, AllObey}
 use Rattle.std.specs.declared.alloc.AllocError.{AllocError}
 use Rattle.std.specs.Prelude.{Ok, Err}
 use Rattle.resin_http.specs.Stream.{asks, refuses}
@@ -16,11 +16,12 @@ use Rattle.resin_site.specs.declared.outcome.End.TheVariants.{NotYet as Unbuilt}
 use Rattle.resin_site.specs.Laws.{IsLawful, Obeys, ObeysIn}
 use Rattle.resin_site.specs.Serving.{Served, IsReply}
 use Rattle.resin_site.specs.Outcomes.{refusal_text}
-use Rattle.resin_journal.specs.Events.{EventList}
-use Rattle.resin_journal.specs.Lines.{log_of}
 use Rattle.resin_program.specs.Runs.{Reached}
 use Rattle.resin_site.specs.Replies as site
-use Rattle.resin_serve.specs.Asked.{is_unbuilt, recorded, meaning}
+use Rattle.resin_serve.specs.declared.logging.Logging.{Logging}
+use Rattle.resin_serve.specs.declared.run.Service.{Service}
+use Rattle.resin_serve.specs.Logs.{logged, CanTell}
+use Rattle.resin_serve.specs.Asked.{is_unbuilt, recorded, served}
 use Rattle.resin_serve.specs.Records.{record_text}
 use Rattle.resin_serve.specs.Ran.{Grew, part, World, Gained, IsState, Called, Giving, Before, Amid, Meeting, RanFrom, Ran}
 use Rattle.resin_serve.proofs.Calling.{called_by, called_none, called_then, called_on, calls_append}
@@ -281,7 +282,7 @@ one_called R K s n x old new c = subst (λ l. Called K l old new) (sym (append-n
 
 -- one answer, of which a front of its bytes was given
 one_given : (g : Given) (Q : Owed → Type 0) (R : Meaning) (K : List ℕ) (s : St) (n : ℕ) (x : Owed) (old new : World) (got lost : List (ℕ × ℕ))
-    → Q x → Obeys n (reply R K s n x).is → tagged (reply R K s n x) ≡ got ++ lost → (lost ≡ [] → ⊥) → Gained old new got → Called K (reply R K s n x).is.calls old new → IsState new (reply R K s n x).after
+    → Q x → IsLawfulAnswer n (reply R K s n x) → tagged (reply R K s n x) ≡ got ++ lost → (lost ≡ [] → ⊥) → Gained old new got → Called K (reply R K s n x).is.calls old new → IsState new (reply R K s n x).after
     → Giving Q R K s n (x ∷ []) old new
 one_given g Q R K s n x old new got lost q l e ne a c i =
     let z : n ≡ n + 0 = omega arith in
@@ -303,7 +304,7 @@ one_given g Q R K s n x old new got lost q l e ne a c i =
 
 -- the outcome of one answer was given as far as it was
 one_from : (g : Given) (Q : Owed → Type 0) (R : Meaning) (K : List ℕ) (s : St) (n : ℕ) (x : Owed) (old new : World)
-    → Q x → Obeys n (reply R K s n x).is → GaveAll g (tagged (reply R K s n x)) old new → Called K (reply R K s n x).is.calls old new → IsState new (reply R K s n x).after → RanFrom g Q R K s n (x ∷ []) old new
+    → Q x → IsLawfulAnswer n (reply R K s n x) → GaveAll g (tagged (reply R K s n x)) old new → Called K (reply R K s n x).is.calls old new → IsState new (reply R K s n x).after → RanFrom g Q R K s n (x ∷ []) old new
 one_from Whole Q R K s n x old new q l a c i = record {
   lawful = (l, tt);
   gained = subst (Gained old new) (sym (append-nil a.got) ∙ ap (λ l. a.got ++ l) (sym a.lost_is) ∙ sym a.split ∙ sym (append-nil (tagged (reply R K s n x)))) a.gained;
@@ -314,37 +315,33 @@ one_from Fault Q R K s n x old new q l a c i = one_given Fault Q R K s n x old n
 one_from NotYet Q R K s n x old new q l a c i = absurd a.lost_is
 one_from Memory Q R K s n x old new q l a c i = inl (one_given Memory (λ _. ⊤) R K s n x old new a.got a.lost tt l a.split a.lost_is a.gained c i)
 
--- the log, the mail and the response of an outcome are the reply's
-texts_of : (g : Given) (conn : ℕ) (lines mails response : List ℕ) (r : site.Reply) (old new : World) → lines ≡ r.log → mails ≡ r.mail → response ≡ r.response
-    → GaveAll g (three lines mails (record_text conn response)) old new → GaveAll g (tagged (recorded conn r)) old new
-texts_of g conn lines mails response r old new l m t h =
+-- the log, the mail and the response of an answer are the reply's
+texts_of : (g : Given) (logging : Logging) (n conn : ℕ) (lines mails response : List ℕ) (r : site.Reply) (old new : World) → lines ≡ logged logging n r.journal → mails ≡ r.mail → response ≡ r.response
+    → GaveAll g (three lines mails (record_text conn response)) old new → GaveAll g (tagged (recorded logging n conn r)) old new
+texts_of g logging n conn lines mails response r old new l m t h =
     subst (λ x. GaveAll g (three x r.mail (record_text conn r.response)) old new) l
     (subst (λ x. GaveAll g (three lines x (record_text conn r.response)) old new) m
     (subst (λ x. GaveAll g (three lines mails (record_text conn x)) old new) t h))
-
--- the log of a request's answer is that of its journal
-logs : (fuel : ℕ) (K : List ℕ) (s : Store) (made n : ℕ) (r : Request) (j : EventList) → j ≡ (site.request fuel K s made n r).journal → log_of n j ≡ (site.request fuel K s made n r).log
-unfolding site.request
-logs fuel K s made n r j e = ap (log_of n) e
 
 -- the reply that tells a lawful outcome obeys the access law
 reply_obeys : (n : ℕ) (o : Outcome) (r : site.Reply) → IsReply o r → IsLawful n o → Obeys n r
 reply_obeys n o r told law = subst (λ end. ObeysIn end n r) told.end (record { outcome = o; told = told; lawful = law })
 
 -- a request's answer was given as far as it was
-pub ran_gave : (g : Given) (Q : Owed → Type 0) (fuel : ℕ) (K failed : List ℕ) (n conn place : ℕ) (r : Request) (o : Outcome) (old mid new : World)
-    → Q (record { conn = conn; asked = asks r; place = place }) → IsLawful n o → GaveAll g (three (log_of n o.journal) o.mail (record_text conn o.response)) old new
-    → Served fuel K old.store old.made n r (λ calls. Tells calls old.told mid.told old.made mid.made failed) (Ok o) mid.store mid.made
+pub ran_gave : (g : Given) (Q : Owed → Type 0) (service : Service) (K failed : List ℕ) (n conn place : ℕ) (r : Request) (o : Outcome) (old mid new : World)
+    → Q (record { conn = conn; asked = asks r; place = place }) → IsLawful n o → CanTell service.logging n o.journal
+    → GaveAll g (three (logged service.logging n o.journal) o.mail (record_text conn o.response)) old new
+    → Served service.site K old.store old.made n r (λ calls. Tells calls old.told mid.told old.made mid.made failed) (Ok o) mid.store mid.made
     → new.store ≡ mid.store → new.told ≡ mid.told → new.made ≡ mid.made → Later new.made failed K
-    → Ran g Q (meaning fuel) K n (record { conn = conn; asked = asks r; place = place } ∷ []) old new
+    → Ran g Q (served service) K n (record { conn = conn; asked = asks r; place = place } ∷ []) old new
 unfolding Ran
-ran_gave g Q fuel K failed n conn place r o old mid new q law a h st to ma later = where_then old.store _ _ (λ s t.
-    one_from g Q (meaning fuel) K (record { store = s; made = old.made }) n (record { conn = conn; asked = asks r; place = place }) old new q
-    (reply_obeys n o (site.request fuel K s old.made n r) t.says law)
-    (texts_of g conn (log_of n o.journal) o.mail o.response (site.request fuel K s old.made n r) old new (logs fuel K s old.made n r o.journal t.says.journal) t.says.mail t.says.response a)
-    (called_by K failed (site.request fuel K s old.made n r).calls old new later
-    (subst (λ k. Tells (site.request fuel K s old.made n r).calls old.told new.told old.made k failed) (sym ma)
-    (subst (λ k. Tells (site.request fuel K s old.made n r).calls old.told k old.made mid.made failed) (sym to) t.called)))
+ran_gave g Q service K failed n conn place r o old mid new q law tell a h st to ma later = where_then old.store _ _ (λ s t.
+    one_from g Q (served service) K (record { store = s; made = old.made }) n (record { conn = conn; asked = asks r; place = place }) old new q
+    (record { obeys = reply_obeys n o (site.request service.site K s old.made n r) t.says law; told = subst (CanTell service.logging n) t.says.journal tell })
+    (texts_of g service.logging n conn (logged service.logging n o.journal) o.mail o.response (site.request service.site K s old.made n r) old new (ap (logged service.logging n) t.says.journal) t.says.mail t.says.response a)
+    (called_by K failed (site.request service.site K s old.made n r).calls old new later
+    (subst (λ k. Tells (site.request service.site K s old.made n r).calls old.told new.told old.made k failed) (sym ma)
+    (subst (λ k. Tells (site.request service.site K s old.made n r).calls old.told k old.made mid.made failed) (sym to) t.called)))
     (ma ∙ t.made_is, st ∙ t.store_is)) h
 
 pub gained_same : (old new : World) → new.log ≡ old.log → new.mail ≡ old.mail → new.out ≡ old.out → Gained old new []
@@ -355,12 +352,12 @@ gained_same old new l m u = record {
 }
 
 -- a request's calls were made in part, for want of memory
-pub ran_amid : (Q : Owed → Type 0) (fuel : ℕ) (K failed : List ℕ) (n conn place : ℕ) (r : Request) (e : AllocError) (old new : World)
+pub ran_amid : (Q : Owed → Type 0) (service : Service) (K failed : List ℕ) (n conn place : ℕ) (r : Request) (e : AllocError) (old new : World)
     → new.log ≡ old.log → new.mail ≡ old.mail → new.out ≡ old.out
-    → Served fuel K old.store old.made n r (λ calls. Tells calls old.told new.told old.made new.made failed) (Err e) new.store new.made → Later new.made failed K
-    → Ran Memory Q (meaning fuel) K n (record { conn = conn; asked = asks r; place = place } ∷ []) old new
+    → Served service.site K old.store old.made n r (λ calls. Tells calls old.told new.told old.made new.made failed) (Err e) new.store new.made → Later new.made failed K
+    → Ran Memory Q (served service) K n (record { conn = conn; asked = asks r; place = place } ∷ []) old new
 unfolding Ran
-ran_amid Q fuel K failed n conn place r e old new l m u h later = where_then old.store _ _ (λ s t.
+ran_amid Q service K failed n conn place r e old new l m u h later = where_then old.store _ _ (λ s t.
     let z : n ≡ n + 0 = omega arith in
     inr (inr (record {
       done = [];
@@ -370,31 +367,31 @@ ran_amid Q fuel K failed n conn place r e old new l m u h later = where_then old
       lawful = tt;
       gained = gained_same old new l m u;
       at = t.at;
-      reached = subst (λ k. Reached t.at (reply (meaning fuel) K (record { store = s; made = old.made }) k (record { conn = conn; asked = asks r; place = place })).moments) z t.reached;
+      reached = subst (λ k. Reached t.at (reply (served service) K (record { store = s; made = old.made }) k (record { conn = conn; asked = asks r; place = place })).moments) z t.reached;
       made = t.made_is;
       called = called_by K failed t.at.calls old new later t.called;
       state = t.store_is;
     }))) h
 
 -- a request met what isn't built
-pub ran_met : (Q : Owed → Type 0) (fuel : ℕ) (K failed : List ℕ) (n conn place : ℕ) (r : Request) (o : Outcome) (old new : World)
+pub ran_met : (Q : Owed → Type 0) (service : Service) (K failed : List ℕ) (n conn place : ℕ) (r : Request) (o : Outcome) (old new : World)
     → new.log ≡ old.log → new.mail ≡ old.mail → new.out ≡ old.out → o.end ≡ Unbuilt
-    → Served fuel K old.store old.made n r (λ calls. Tells calls old.told new.told old.made new.made failed) (Ok o) new.store new.made → Later new.made failed K
-    → Ran NotYet Q (meaning fuel) K n (record { conn = conn; asked = asks r; place = place } ∷ []) old new
+    → Served service.site K old.store old.made n r (λ calls. Tells calls old.told new.told old.made new.made failed) (Ok o) new.store new.made → Later new.made failed K
+    → Ran NotYet Q (served service) K n (record { conn = conn; asked = asks r; place = place } ∷ []) old new
 unfolding Ran
-ran_met Q fuel K failed n conn place r o old new l m u e h later = where_then old.store _ _ (λ s t.
+ran_met Q service K failed n conn place r o old new l m u e h later = where_then old.store _ _ (λ s t.
     let z : n ≡ n + 0 = omega arith in
     record {
       done = [];
       now = record { conn = conn; asked = asks r; place = place };
       later = [];
       is = refl;
-      not_yet = subst (λ k. (reply (meaning fuel) K (record { store = s; made = old.made }) k (record { conn = conn; asked = asks r; place = place })).not_yet ≡ true) z
+      not_yet = subst (λ k. (reply (served service) K (record { store = s; made = old.made }) k (record { conn = conn; asked = asks r; place = place })).not_yet ≡ true) z
           (ap is_unbuilt (sym t.says.end ∙ ap (λ x. Some x) e));
       lawful = tt;
       gained = gained_same old new l m u;
-      called = one_called (meaning fuel) K (record { store = s; made = old.made }) n (record { conn = conn; asked = asks r; place = place }) old new
-          (called_by K failed (site.request fuel K s old.made n r).calls old new later t.called);
+      called = one_called (served service) K (record { store = s; made = old.made }) n (record { conn = conn; asked = asks r; place = place }) old new
+          (called_by K failed (site.request service.site K s old.made n r).calls old new later t.called);
       state = (t.made_is, t.store_is);
     }) h
 
@@ -407,14 +404,15 @@ refusal_obeys : (n : ℕ) (s : Store) (made status : ℕ) → Obeys n (site.refu
 refusal_obeys n s made status = record { journal = refl; log = refl; mail = refl; calls = refl; headers = refl; body = refl; response = refl }
 
 -- a refusal was given as far as it was
-pub ran_refused : (g : Given) (Q : Owed → Type 0) (fuel : ℕ) (K : List ℕ) (n conn status place : ℕ) (response : List ℕ) (old new : World)
-    → Q (record { conn = conn; asked = refuses status; place = place }) → GaveAll g (three [] [] (record_text conn response)) old new
-    → new.store ≡ old.store → new.told ≡ old.told → new.made ≡ old.made → response ≡ refusal_text status
-    → Ran g Q (meaning fuel) K n (record { conn = conn; asked = refuses status; place = place } ∷ []) old new
+pub ran_refused : (g : Given) (Q : Owed → Type 0) (service : Service) (K : List ℕ) (n conn status place : ℕ) (lines response : List ℕ) (old new : World)
+    → Q (record { conn = conn; asked = refuses status; place = place }) → CanTell service.logging n [] → GaveAll g (three lines [] (record_text conn response)) old new
+    → new.store ≡ old.store → new.told ≡ old.told → new.made ≡ old.made → lines ≡ logged service.logging n [] → response ≡ refusal_text status
+    → Ran g Q (served service) K n (record { conn = conn; asked = refuses status; place = place } ∷ []) old new
 unfolding Ran
-ran_refused g Q fuel K n conn status place response old new q a st to ma e = told_with old.store _ (λ s i.
-    one_from g Q (meaning fuel) K (record { store = s; made = old.made }) n (record { conn = conn; asked = refuses status; place = place }) old new q (refusal_obeys n s old.made status)
-    (texts_of g conn [] [] response (site.refusal s old.made status) old new refl refl e a) (called_same K old new to ma) (ma, st ∙ i))
+ran_refused g Q service K n conn status place lines response old new q tell a st to ma l e = told_with old.store _ (λ s i.
+    one_from g Q (served service) K (record { store = s; made = old.made }) n (record { conn = conn; asked = refuses status; place = place }) old new q
+    (record { obeys = refusal_obeys n s old.made status; told = tell })
+    (texts_of g service.logging n conn lines [] response (site.refusal s old.made status) old new l refl e a) (called_same K old new to ma) (ma, st ∙ i))
 
 -- of a whole run nothing is said of an answer whose bytes were being given
 pub ran_any : (Q Q' : Owed → Type 0) (R : Meaning) (K : List ℕ) (n : ℕ) (xs : List Owed) (old new : World) → Ran Whole Q R K n xs old new → Ran Whole Q' R K n xs old new

@@ -22,7 +22,7 @@ use Rattle.resin_serve.specs.declared.give.Given.TheVariants.{Whole, Fault, Memo
 use Rattle.resin_serve.specs.declared.run.Ready.{Ready}
 use Rattle.resin_serve.specs.declared.run.Ready.TheVariants.{Wait, Bad, TooLong}
 use Rattle.resin_serve.specs.declared.status.Status.{Status}
-use Rattle.resin_serve.specs.declared.status.Status.TheVariants.{Usage, BadTrace, ReadFault, WriteFault, TraceTooLong}
+use Rattle.resin_serve.specs.declared.status.Status.TheVariants.{Usage, BadTrace, ReadFault, WriteFault, TraceTooLong, AuditRefused}
 use Rattle.resin_serve.specs.declared.status.Status.TheVariants.{Ok as StatusOk, Memory as StatusMemory, NotYet as StatusNotYet}
 use Rattle.resin_http.specs.Stream.{answers_in}
 use Rattle.resin_serve.specs.Meaning.{Meaning, Owed, fresh, order, life}
@@ -320,6 +320,7 @@ ends_as WriteFault R reader es old new K T U h f r = absurd f
 ends_as TraceTooLong R reader es old new K T U h f r = (finishes T es reader (Err LongFault) h f, r)
 ends_as StatusMemory R reader es old new K T U h f r = absurd f
 ends_as StatusNotYet R reader es old new K T U h f r = absurd f
+ends_as AuditRefused R reader es old new K T U h f r = absurd f
 
 pub ends_trace : (status : Status) (R : Meaning) (left mid left' : Option (List ℕ)) (reader : Seen) (n made : ℕ) (failed : List ℕ) (lines : List (Option Waiting)) (old new : World) (taken buf filled : List ℕ) (count : ℕ)
     → Joined Whole R left mid reader n made failed lines old new taken × Stands Wait reader → Told mid left' (Takes buf filled (Ok count)) → count ≡ 0 → Finished reader status

@@ -2,7 +2,7 @@
 use Rattle.std.specs.Prelude.{ℕ, ⊤}
 use Rattle.resin_base.specs.Causes.{Rose}
 use Rattle.resin_serve.specs.declared.status.Status.{Status}
-use Rattle.resin_serve.specs.declared.status.Status.TheVariants.{Usage, BadTrace, ReadFault, WriteFault, TraceTooLong, NotYet}
+use Rattle.resin_serve.specs.declared.status.Status.TheVariants.{Usage, BadTrace, ReadFault, WriteFault, TraceTooLong, NotYet, AuditRefused}
 use Rattle.resin_serve.specs.declared.status.Status.TheVariants.{Ok as StatusOk, Memory as StatusMemory}
 use Rattle.resin_serve.specs.Gives.{RoseIn, Sinks}
 use Rattle.resin_serve.specs.Kept.{Keepers}
@@ -17,6 +17,7 @@ Completes WriteFault = ⊥
 Completes TraceTooLong = ⊥
 Completes StatusMemory = ⊤
 Completes NotYet = ⊤
+Completes AuditRefused = ⊥
 
 -- no count rose
 pub record Calm (reads reads' : ℕ) (old new : Sinks) (keepers keepers' : Keepers) : Type 0 where

@@ -10,5 +10,9 @@ pub mod Words
 pub mod Headline
 pub mod Codes
 pub mod Asked
+pub mod Logs
+pub mod Audits
+pub mod Wholes
+pub mod Recorded
 pub mod Cutting
 pub mod Waiting_streams

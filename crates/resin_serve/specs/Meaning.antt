@@ -7,10 +7,13 @@ use Rattle.resin_trace.specs.declared.event.TraceEvent.TheVariants.{Piece, End}
 use Rattle.resin_http.specs.Stream.{Answer, answers}
 use Rattle.resin_site.specs.Laws.{Obeys}
 use Rattle.resin_site.specs.Replies as site
+use Rattle.resin_serve.specs.declared.logging.Logging.{Logging}
+use Rattle.resin_serve.specs.Logs.{CanTell}
 
--- what an answer gives to the three sinks, the reply of the site that it is, whether it meets what isn't built, the state after it, and the moments that
--- it goes through: each with what the keepers hold then and the answer's keeper calls until then
+-- what an answer gives to the three sinks, with what its log tells, the reply of the site that it is, whether it meets what isn't built, the state after
+-- it, and the moments that it goes through: each with what the keepers hold then and the answer's keeper calls until then
 pub record Reply : Type 0 where
+  pub logging : Logging
   pub log : List ℕ
   pub mail : List ℕ
   pub out : List ℕ
@@ -77,7 +80,12 @@ abbrev pub calls_of : Meaning → List ℕ → St → ℕ → List Owed → List
 calls_of R K s number [] = []
 calls_of R K s number (a ∷ xs) = (reply R K s number a).is.calls ++ calls_of R K (reply R K s number a).after (number + 1) xs
 
+-- what holds of the answer of a run with this number: it obeys the access law, and its log can be told
+pub record IsLawfulAnswer (number : ℕ) (r : Reply) : Type 0 where
+  pub obeys : Obeys number r.is
+  pub told : CanTell r.logging number r.is.journal
+
 -- each of these answers of the run obeys the access law at its number
 abbrev pub AllObey : Meaning → List ℕ → St → ℕ → List Owed → Type 0
 AllObey R K s number [] = ⊤
-AllObey R K s number (a ∷ xs) = Obeys number (reply R K s number a).is × AllObey R K (reply R K s number a).after (number + 1) xs
+AllObey R K s number (a ∷ xs) = IsLawfulAnswer number (reply R K s number a) × AllObey R K (reply R K s number a).after (number + 1) xs

@@ -12,7 +12,7 @@ use Rattle.resin_serve.specs.declared.give.Given.{Given}
 use Rattle.resin_serve.specs.declared.give.Given.TheVariants.{Whole}
 use Rattle.resin_serve.specs.declared.give.Given.TheVariants.{Fault as GivenFault, Memory as GivenMemory, NotYet as GivenNotYet}
 use Rattle.resin_serve.specs.declared.status.Status.{Status}
-use Rattle.resin_serve.specs.declared.status.Status.TheVariants.{Usage, BadTrace, ReadFault, WriteFault, TraceTooLong, NotYet}
+use Rattle.resin_serve.specs.declared.status.Status.TheVariants.{Usage, BadTrace, ReadFault, WriteFault, TraceTooLong, NotYet, AuditRefused}
 use Rattle.resin_serve.specs.declared.status.Status.TheVariants.{Ok as StatusOk, Memory as StatusMemory}
 use Rattle.resin_serve.specs.Meaning.{Meaning, Owed, order}
 use Rattle.resin_site.specs.Keeping.{Later}
@@ -45,6 +45,7 @@ Runs WriteFault R K trace taken old new = RunOf GivenFault (Near taken) R K trac
 Runs TraceTooLong R K trace taken old new = IsLong trace × RunOf Whole (λ _. ⊤) R K trace old new
 Runs StatusMemory R K trace taken old new = RunOf GivenMemory (λ _. ⊤) R K trace old new
 Runs NotYet R K trace taken old new = RunOf GivenNotYet (λ _. ⊤) R K trace old new
+Runs AuditRefused R K trace taken old new = ⊥
 
 -- The run of a trace that a source held, which now tells what is left of it: bytes were taken from the front of the trace, and the run came so far.
 pub record RunsFrom (status : Status) (R : Meaning) (K trace : List ℕ) (now : Option (List ℕ)) (old new : World) : Type 0 where
@@ -63,6 +64,7 @@ given_of_status WriteFault = GivenFault
 given_of_status TraceTooLong = Whole
 given_of_status StatusMemory = GivenMemory
 given_of_status NotYet = GivenNotYet
+given_of_status AuditRefused = Whole
 
 -- a read fault comes only where the source's count rose, and else it stayed
 abbrev pub ReadCause : Status → ℕ → ℕ → Type 0
@@ -74,6 +76,7 @@ ReadCause WriteFault before now = now ≡ before
 ReadCause TraceTooLong before now = now ≡ before
 ReadCause StatusMemory before now = now ≡ before
 ReadCause NotYet before now = now ≡ before
+ReadCause AuditRefused before now = now ≡ before
 
 -- the records of what was taken so far were read, and their answers were served
 pub record RunsSo (R : Meaning) (left left' : Option (List ℕ)) (reader : Seen) (n made : ℕ) (failed : List ℕ) (connections : List (Option Waiting)) (old new : World) : Type 0 where
@@ -98,3 +101,4 @@ Finished s WriteFault = ⊥
 Finished s TraceTooLong = Finishes s (Err TooLong)
 Finished s StatusMemory = ⊥
 Finished s NotYet = ⊥
+Finished s AuditRefused = ⊥

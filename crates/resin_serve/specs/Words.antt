@@ -4,6 +4,10 @@ use Rattle.std.specs.List.{list_all, slice_index}
 use Rattle.std.specs.Char.{is_ascii_digit}
 use Rattle.std.specs.Str.Parse.{digits_value}
 use Rattle.std.specs.Cmp.Lexicographic.{pointwise}
+use Rattle.resin_serve.specs.declared.logging.Logging.{Logging}
+use Rattle.resin_serve.specs.declared.logging.Logging.TheVariants.{Denials, Journals}
+use Rattle.resin_serve.specs.declared.words.Task.{Task}
+use Rattle.resin_serve.specs.declared.words.Task.TheVariants.{Run, Audit}
 
 abbrev pub is_word : List ℕ → List ℕ → Bool
 is_word word wanted = pointwise nat_eq word wanted
@@ -23,10 +27,20 @@ is_decimal text = nat_lt 0 (length text) && nat_le (length text) 9 && list_all i
 abbrev pub fuel_number : List ℕ → Option ℕ
 fuel_number text = if is_decimal text && nat_le (digits_value 10 text) most_fuel then Some (digits_value 10 text) else None
 
--- the ticks of a request, by the words `serve` and `serve --fuel N`; None for all other words
-abbrev pub fuel_of : List (List ℕ) → Option ℕ
-fuel_of [] = None
-fuel_of (w ∷ []) = if is_word w (codes "serve") then Some usual_fuel else None
-fuel_of (w ∷ o ∷ []) = None
-fuel_of (w ∷ o ∷ n ∷ []) = if is_word w (codes "serve") && is_word o (codes "--fuel") then fuel_number n else None
-fuel_of (w ∷ o ∷ n ∷ m ∷ ws) = None
+-- what the log of a run tells that begins with this word
+abbrev pub logging_of : List ℕ → Option Logging
+logging_of w = if is_word w (codes "serve") then Some Denials else (if is_word w (codes "record") then Some Journals else None)
+
+-- a run with this log and so much fuel, where both are said
+abbrev pub run_with : Option Logging → Option ℕ → Option Task
+run_with None fuel = None
+run_with (Some logging) None = None
+run_with (Some logging) (Some fuel) = Some (Run logging fuel)
+
+-- What the words ask for: a run by `serve` and `record`, each alone or with `--fuel N`, an audit by `audit`; None for all other words.
+abbrev pub task_of : List (List ℕ) → Option Task
+task_of [] = None
+task_of (w ∷ []) = if is_word w (codes "audit") then Some Audit else run_with (logging_of w) (Some usual_fuel)
+task_of (w ∷ o ∷ []) = None
+task_of (w ∷ o ∷ n ∷ []) = if is_word o (codes "--fuel") then run_with (logging_of w) (fuel_number n) else None
+task_of (w ∷ o ∷ n ∷ m ∷ ws) = None

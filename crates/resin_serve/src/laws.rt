@@ -1,5 +1,6 @@
 //! Laws of runs, each on a function that does nothing.
 ghost use Rattle.resin_serve.specs.Cutting.{AnyCutting, AskedTells, LivesTell, OneConnection, SameLives, SameRuns};
+ghost use Rattle.resin_serve.specs.Recorded.{RecordsPass};
 
 /// No cutting of a connection's stream into pieces changes what it asks.
 pub fn any_cutting()
@@ -30,4 +31,10 @@ pub fn same_runs()
 /// Two traces on one connection whose lives have the same streams ask the same in the same order, and have the same runs.
 pub fn one_connection()
     ensures { OneConnection }
+{}
+
+/// A whole recorded run leaves in the log the journal file of its answers, and what [`resin_audit::audit`] says of that file is Yes, with the number
+/// of the answers and of their events.
+pub fn recorded_runs()
+    ensures { RecordsPass }
 {}

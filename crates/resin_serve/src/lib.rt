@@ -1,8 +1,10 @@
-//! Serves a recorded trace over a site: the top call of the runtime.
+//! Serves a recorded trace over a site, and audits the journal file of a run: the top call of the runtime.
 #![tactic(auto)]
 
+mod auditing;
 mod give;
 mod laws;
+mod logging;
 mod output;
 mod run;
 mod status;
@@ -10,6 +12,8 @@ mod top;
 mod waiting;
 mod words;
 
-pub use laws::{any_cutting, asked_tells, lives_tell, one_connection, same_lives, same_runs};
+pub use laws::{
+    any_cutting, asked_tells, lives_tell, one_connection, recorded_runs, same_lives, same_runs,
+};
 pub use status::{Ended, Status};
 pub use top::serve;

@@ -3,37 +3,48 @@ ghost use Rattle.std.specs.Prelude.{◌≡◌, ◌≢◌, ◌+◌, ◌∷◌, []
 ghost use Rattle.resin_http.specs.Stream.{asks, refuses};
 ghost use Rattle.resin_trace.specs.declared.event.TraceEvent.{TraceEvent};
 ghost use Rattle.resin_trace.specs.Lines.{at};
+ghost use Rattle.resin_serve.specs.declared.run.Service.{Service};
 ghost use Rattle.resin_serve.specs.Ran.{Ran, world};
 ghost use Rattle.resin_serve.specs.Gives.{CausedIn, GaveAll, counts, sinks, three};
 ghost use Rattle.resin_serve.specs.Kept.{Kept, keepers};
 ghost use Rattle.resin_site.specs.Keeping.{Answers, Store, Later, answers, store_of};
 ghost use Rattle.resin_base.specs.Numbering.{AreNumbered};
-ghost use Rattle.resin_journal.specs.Lines.{log_of};
+ghost use Rattle.resin_journal.specs.Access.{ClassesAreNames};
 ghost use Rattle.resin_serve.specs.Records.{record_text};
-ghost use Rattle.resin_serve.specs.Asked.{meaning};
+ghost use Rattle.resin_serve.specs.Asked.{served};
+ghost use Rattle.resin_serve.specs.Logs.{logged, CanTell};
 ghost use Rattle.resin_serve.specs.Lines.{still, asked, Hold};
 ghost use Rattle.resin_serve.specs.Top.{OnWhole, RanLine, RanEvent, Beyond, Went, given_of};
 
 use crate::give::{Given, give_three};
+use crate::logging::{Logging, logged};
 use crate::output::output_record;
 use crate::waiting::WaitingStreams;
 use resin_base::{Calls, Files, Sink, Tables};
 use resin_http::{Request, Step};
-use resin_site::{End, Outcome, Site, log_text, refusal, serve_one};
+use resin_journal::Journal;
+use resin_site::{End, Outcome, Site, refusal, serve_one};
 use resin_trace::{TraceEvent, TraceFault, TraceReader};
 use std::alloc::Global;
 
-/// What a run has at hand: the site, the keeper calls so far, the number of the next answer, and the streams of the connections.
+/// What is the same in all of a run: its site, and what its answers put into the log.
+#[derive(Drop)]
+pub struct Service {
+    pub site: Site,
+    pub logging: Logging,
+}
+
+/// What a run has at hand: its service, the keeper calls so far, the number of the next answer, and the streams of the connections.
 #[derive(Drop)]
 pub(crate) struct Run {
     pub(crate) alloc: Global,
-    pub(crate) site: Site,
+    pub(crate) service: Service,
     pub(crate) calls: Calls,
     pub(crate) number: u64,
     pub(crate) connections: WaitingStreams,
 }
 
-/// Gives an answer: the lines of its log, then its mail records, then the record of its response.
+/// Gives an answer: what it puts into the log, then its mail records, then the record of its response.
 pub(crate) fn give_answer<L: Sink, M: Sink, O: Sink>(
     run: &mut Run,
     log: &mut L,
@@ -44,7 +55,7 @@ pub(crate) fn give_answer<L: Sink, M: Sink, O: Sink>(
     mails: &[u8],
     response: &[u8],
 ) -> Given
-    ensures same { (run.new.site ≡ run.old.site) × (run.new.connections ≡ run.old.connections) × (run.new.calls ≡ run.old.calls) }
+    ensures same { (run.new.service ≡ run.old.service) × (run.new.connections ≡ run.old.connections) × (run.new.calls ≡ run.old.calls) }
     ensures gave { (store store' : Option Store) (told told' : Answers) (made made' : ℕ)
         → GaveAll result (three lines.now mails.now (record_text conn response.now)) (world (L.written log.old) (M.written mail.old) (O.written out.old) store told made)
         (world (L.written log.new) (M.written mail.new) (O.written out.new) store' told' made') }
@@ -63,7 +74,7 @@ pub(crate) fn give_answer<L: Sink, M: Sink, O: Sink>(
     give_three(log, mail, out, lines, mails, record.as_slice())
 }
 
-// Gives an outcome: the lines of its denials, its mail records, and the record of its response.
+// Gives an outcome: what it puts into the log, its mail records, and the record of its response.
 fn give_outcome<L: Sink, M: Sink, O: Sink>(
     run: &mut Run,
     log: &mut L,
@@ -72,16 +83,18 @@ fn give_outcome<L: Sink, M: Sink, O: Sink>(
     conn: u16,
     outcome: &Outcome,
 ) -> Given
-    ensures same { (run.new.site ≡ run.old.site) × (run.new.connections ≡ run.old.connections) × (run.new.calls ≡ run.old.calls) }
+    ensures same { (run.new.service ≡ run.old.service) × (run.new.connections ≡ run.old.connections) × (run.new.calls ≡ run.old.calls) }
     ensures gave { (store store' : Option Store) (told told' : Answers) (made made' : ℕ)
-        → GaveAll result (three (log_of run.old.number outcome.now.journal) outcome.now.mail (record_text conn outcome.now.response)) (world (L.written log.old) (M.written mail.old) (O.written out.old) store told made)
+        → GaveAll result (three (logged run.old.service.logging run.old.number outcome.now.journal) outcome.now.mail (record_text conn outcome.now.response)) (world (L.written log.old) (M.written mail.old) (O.written out.old) store told made)
         (world (L.written log.new) (M.written mail.new) (O.written out.new) store' told' made') }
+    ensures told { ClassesAreNames outcome.now.journal → CanTell run.old.service.logging run.old.number outcome.now.journal }
     ensures number { OnWhole result (run.new.number ≡ run.old.number + 1) }
     ensures cause { CausedIn result
         (sinks (counts (L.faults log.old) (L.stalls log.old)) (counts (M.faults mail.old) (M.stalls mail.old)) (counts (O.faults out.old) (O.stalls out.old)))
         (sinks (counts (L.faults log.new) (L.stalls log.new)) (counts (M.faults mail.new) (M.stalls mail.new)) (counts (O.faults out.new) (O.stalls out.new))) }
 {
-    let Ok(lines) = log_text(run.alloc, run.number, &outcome.journal) else {
+    let logging = run.service.logging;
+    let Ok(lines) = logged(run.alloc, logging, run.number, &outcome.journal) else {
         return Given::Memory;
     };
     give_answer(
@@ -108,12 +121,12 @@ pub(crate) fn serve_request<F: Files, T: Tables, L: Sink, M: Sink, O: Sink>(
     request: &Request,
 ) -> Given
     requires { AreNumbered run.old.calls }
-    ensures same { (run.new.site ≡ run.old.site) × (run.new.connections ≡ run.old.connections) }
+    ensures same { (run.new.service ≡ run.old.service) × (run.new.connections ≡ run.old.connections) }
     ensures numbered { AreNumbered run.new.calls }
     ensures kept { Kept (keepers run.old.calls.made run.old.calls.failed (F.answers files.old) (F.faults files.old) (T.answers tables.old) (T.faults tables.old))
         (keepers run.new.calls.made run.new.calls.failed (F.answers files.new) (F.faults files.new) (T.answers tables.new) (T.faults tables.new)) }
     ensures ran { (place : ℕ) (K : List ℕ) → Later run.new.calls.made run.new.calls.failed K
-        → Ran result (λ a. a.place ≡ place) (meaning run.old.site) K run.old.number (record { conn = conn; asked = asks request.now; place = place } ∷ [])
+        → Ran result (λ a. a.place ≡ place) (served run.old.service) K run.old.number (record { conn = conn; asked = asks request.now; place = place } ∷ [])
         (world (L.written log.old) (M.written mail.old) (O.written out.old) (store_of (F.stored files.old) (T.stored tables.old)) (answers (F.answers files.old) (T.answers tables.old)) run.old.calls.made)
         (world (L.written log.new) (M.written mail.new) (O.written out.new) (store_of (F.stored files.new) (T.stored tables.new)) (answers (F.answers files.new) (T.answers tables.new)) run.new.calls.made) }
     ensures number { OnWhole result (run.new.number ≡ run.old.number + 1) }
@@ -123,7 +136,7 @@ pub(crate) fn serve_request<F: Files, T: Tables, L: Sink, M: Sink, O: Sink>(
 {
     let served = serve_one(
         run.alloc,
-        &mut run.site,
+        &mut run.service.site,
         request,
         run.number,
         files,
@@ -150,9 +163,9 @@ pub(crate) fn serve_refusal<L: Sink, M: Sink, O: Sink>(
     conn: u16,
     status: u16,
 ) -> Given
-    ensures same { (run.new.site ≡ run.old.site) × (run.new.connections ≡ run.old.connections) × (run.new.calls ≡ run.old.calls) }
-    ensures ran { (place fuel : ℕ) (K : List ℕ) (store : Option Store) (told : Answers)
-        → Ran result (λ a. a.place ≡ place) (meaning fuel) K run.old.number (record { conn = conn; asked = refuses status; place = place } ∷ [])
+    ensures same { (run.new.service ≡ run.old.service) × (run.new.connections ≡ run.old.connections) × (run.new.calls ≡ run.old.calls) }
+    ensures ran { (place : ℕ) (K : List ℕ) (store : Option Store) (told : Answers) (service : Service) → service.logging ≡ run.old.service.logging
+        → Ran result (λ a. a.place ≡ place) (served service) K run.old.number (record { conn = conn; asked = refuses status; place = place } ∷ [])
         (world (L.written log.old) (M.written mail.old) (O.written out.old) store told run.old.calls.made)
         (world (L.written log.new) (M.written mail.new) (O.written out.new) store told run.new.calls.made) }
     ensures number { OnWhole result (run.new.number ≡ run.old.number + 1) }
@@ -160,10 +173,24 @@ pub(crate) fn serve_refusal<L: Sink, M: Sink, O: Sink>(
         (sinks (counts (L.faults log.old) (L.stalls log.old)) (counts (M.faults mail.old) (M.stalls mail.old)) (counts (O.faults out.old) (O.stalls out.old)))
         (sinks (counts (L.faults log.new) (L.stalls log.new)) (counts (M.faults mail.new) (M.stalls mail.new)) (counts (O.faults out.new) (O.stalls out.new))) }
 {
+    let logging = run.service.logging;
+    let journal = Journal::new(run.alloc);
+    let Ok(lines) = logged(run.alloc, logging, run.number, &journal) else {
+        return Given::Memory;
+    };
     let Ok(response) = refusal(run.alloc, status) else {
         return Given::Memory;
     };
-    give_answer(run, log, mail, out, conn, &[], &[], response.as_slice())
+    give_answer(
+        run,
+        log,
+        mail,
+        out,
+        conn,
+        lines.as_slice(),
+        &[],
+        response.as_slice(),
+    )
 }
 
 /// Serves the answers that stand on a connection, on which something came.
@@ -178,13 +205,13 @@ pub(crate) fn serve_connection<F: Files, T: Tables, L: Sink, M: Sink, O: Sink>(
 ) -> Given
     requires some { IsSome (at run.old.connections conn) }
     requires numbered { AreNumbered run.old.calls }
-    ensures site { run.new.site ≡ run.old.site }
+    ensures service { run.new.service ≡ run.old.service }
     ensures others { (c : ℕ) → c ≢ conn → at run.new.connections c ≡ at run.old.connections c }
     ensures numbered { AreNumbered run.new.calls }
     ensures kept { Kept (keepers run.old.calls.made run.old.calls.failed (F.answers files.old) (F.faults files.old) (T.answers tables.old) (T.faults tables.old))
         (keepers run.new.calls.made run.new.calls.failed (F.answers files.new) (F.faults files.new) (T.answers tables.new) (T.faults tables.new)) }
     ensures ran { (place : ℕ) (K : List ℕ) → Later run.new.calls.made run.new.calls.failed K
-        → Ran result (λ a. a.place ≡ place) (meaning run.old.site) K run.old.number (asked conn place (still (at run.old.connections conn) []))
+        → Ran result (λ a. a.place ≡ place) (served run.old.service) K run.old.number (asked conn place (still (at run.old.connections conn) []))
         (world (L.written log.old) (M.written mail.old) (O.written out.old) (store_of (F.stored files.old) (T.stored tables.old)) (answers (F.answers files.old) (T.answers tables.old)) run.old.calls.made)
         (world (L.written log.new) (M.written mail.new) (O.written out.new) (store_of (F.stored files.new) (T.stored tables.new)) (answers (F.answers files.new) (T.answers tables.new)) run.new.calls.made) }
     ensures cause { CausedIn result
@@ -222,7 +249,7 @@ pub(crate) fn serve_event<F: Files, T: Tables, L: Sink, M: Sink, O: Sink>(
     event: &TraceEvent,
 ) -> Given
     requires { AreNumbered run.old.calls }
-    ensures site { run.new.site ≡ run.old.site }
+    ensures service { run.new.service ≡ run.old.service }
     ensures numbered { AreNumbered run.new.calls }
     ensures kept { Kept (keepers run.old.calls.made run.old.calls.failed (F.answers files.old) (F.faults files.old) (T.answers tables.old) (T.faults tables.old))
         (keepers run.new.calls.made run.new.calls.failed (F.answers files.new) (F.faults files.new) (T.answers tables.new) (T.faults tables.new)) }
@@ -230,7 +257,7 @@ pub(crate) fn serve_event<F: Files, T: Tables, L: Sink, M: Sink, O: Sink>(
         (sinks (counts (L.faults log.old) (L.stalls log.old)) (counts (M.faults mail.old) (M.stalls mail.old)) (counts (O.faults out.old) (O.stalls out.old)))
         (sinks (counts (L.faults log.new) (L.stalls log.new)) (counts (M.faults mail.new) (M.stalls mail.new)) (counts (O.faults out.new) (O.stalls out.new))) }
     ensures ran { (place : ℕ) (seen : List TraceEvent) → Hold run.old.connections seen
-        → RanEvent result (meaning run.old.site) seen (event.now, place) run.old.number run.new.number run.new.calls.made run.new.calls.failed run.new.connections
+        → RanEvent result (served run.old.service) seen (event.now, place) run.old.number run.new.number run.new.calls.made run.new.calls.failed run.new.connections
         (world (L.written log.old) (M.written mail.old) (O.written out.old) (store_of (F.stored files.old) (T.stored tables.old)) (answers (F.answers files.old) (T.answers tables.old)) run.old.calls.made)
         (world (L.written log.new) (M.written mail.new) (O.written out.new) (store_of (F.stored files.new) (T.stored tables.new)) (answers (F.answers files.new) (T.answers tables.new)) run.new.calls.made) }
 {
@@ -276,7 +303,7 @@ pub(crate) fn serve_ready<F: Files, T: Tables, L: Sink, M: Sink, O: Sink>(
     reader: &mut TraceReader,
 ) -> Ready
     requires { AreNumbered run.old.calls }
-    ensures site { run.new.site ≡ run.old.site }
+    ensures service { run.new.service ≡ run.old.service }
     ensures numbered { AreNumbered run.new.calls }
     ensures kept { Kept (keepers run.old.calls.made run.old.calls.failed (F.answers files.old) (F.faults files.old) (T.answers tables.old) (T.faults tables.old))
         (keepers run.new.calls.made run.new.calls.failed (F.answers files.new) (F.faults files.new) (T.answers tables.new) (T.faults tables.new)) }
@@ -284,7 +311,7 @@ pub(crate) fn serve_ready<F: Files, T: Tables, L: Sink, M: Sink, O: Sink>(
         (sinks (counts (L.faults log.old) (L.stalls log.old)) (counts (M.faults mail.old) (M.stalls mail.old)) (counts (O.faults out.old) (O.stalls out.old)))
         (sinks (counts (L.faults log.new) (L.stalls log.new)) (counts (M.faults mail.new) (M.stalls mail.new)) (counts (O.faults out.new) (O.stalls out.new))) }
     ensures went { (seen : List TraceEvent) (b : ℕ) → Hold run.old.connections seen → Beyond b reader.old
-        → Went result (meaning run.old.site) b seen reader.old reader.new run.old.number run.new.number run.new.calls.made run.new.calls.failed run.new.connections
+        → Went result (served run.old.service) b seen reader.old reader.new run.old.number run.new.number run.new.calls.made run.new.calls.failed run.new.connections
         (world (L.written log.old) (M.written mail.old) (O.written out.old) (store_of (F.stored files.old) (T.stored tables.old)) (answers (F.answers files.old) (T.answers tables.old)) run.old.calls.made)
         (world (L.written log.new) (M.written mail.new) (O.written out.new) (store_of (F.stored files.new) (T.stored tables.new)) (answers (F.answers files.new) (T.answers tables.new)) run.new.calls.made) }
 {

@@ -16,22 +16,24 @@ pub struct Ended {
 /// How a run ends.
 #[derive(Clone, Copy, Debug, PartialEq, Eq)]
 pub enum Status {
-    /// The trace was read to its end, and every record was served.
+    /// The trace was read to its end, and every record was served; or the audited text is a journal file whose journals obey the access law.
     Ok,
     /// The words are none of the forms.
     Usage,
     /// The records of the trace end at the offset, before its end.
     BadTrace { offset: u64 },
-    /// The trace could not be read on.
+    /// The trace, or the text to be audited, could not be read on.
     ReadFault,
     /// The output, the log or the mail could not be written on.
     WriteFault,
-    /// The trace is longer than 67,108,864 bytes.
+    /// The trace, or the text to be audited, is longer than 67,108,864 bytes.
     TraceTooLong,
     /// There was no memory.
     Memory,
     /// A request met what isn't built yet.
     NotYet,
+    /// The audited text is no journal file, or a journal of it breaks the access law.
+    AuditRefused,
 }
 
 impl Status {
@@ -48,6 +50,7 @@ impl Status {
             Status::TraceTooLong => 6,
             Status::Memory => 7,
             Status::NotYet => 8,
+            Status::AuditRefused => 9,
         }
     }
 }

@@ -9,26 +9,32 @@ ghost use Rattle.resin_serve.specs.Ran.{world};
 ghost use Rattle.resin_serve.specs.Gives.{CausedIn, counts, sinks};
 ghost use Rattle.resin_serve.specs.Kept.{Kept, keepers};
 ghost use Rattle.resin_site.specs.Keeping.{Later, answers, store_of};
-ghost use Rattle.resin_serve.specs.Asked.{meaning};
+ghost use Rattle.resin_serve.specs.Asked.{meaning, served};
+ghost use Rattle.resin_trace.specs.Records.{limit};
 ghost use Rattle.resin_serve.specs.Whole_run.{RunsFrom, ReadCause, Finished, given_of_status};
-ghost use Rattle.resin_serve.specs.Words.{fuel_of};
+ghost use Rattle.resin_serve.specs.Words.{task_of};
+ghost use Rattle.resin_serve.specs.Audits.{Audits, EndsAudit, EndsRun, OnSilent, CompletesAudit};
 ghost use Rattle.resin_serve.specs.Headline.{Completes, Calm};
-ghost use Rattle.resin_serve.specs.declared.status.Status.TheVariants.{Usage};
+ghost use Rattle.resin_serve.specs.declared.status.Status.TheVariants.{Usage, AuditRefused};
 
-use crate::run::{Ready, Run, serve_ready};
+use crate::auditing::audit_source;
+use crate::logging::Logging;
+use crate::run::{Ready, Run, Service, serve_ready};
 use crate::status::{Ended, Status};
 use crate::waiting::WaitingStreams;
-use crate::words::fuel_of;
+use crate::words::{Task, task_of};
 use resin_base::{Calls, FailList, Files, Sink, Source, Tables};
 use resin_site::Site;
 use resin_trace::{TraceFault, TraceReader};
 use std::alloc::{AllocError, Global};
 
-/// Serves a recorded trace over the keepers of files and of tables.
+/// Serves a recorded trace over the keepers of files and of tables, or audits the journal file of a run.
 ///
-/// The words are `serve` or `serve --fuel N`; with all others the answer is Usage, and nothing is read or written. Otherwise the records of
-/// the trace are served as soon as they stand whole: each answer gives its log lines, its mail records and its output record, in that order,
-/// by a loop over `give` that is lent all that is left for that sink. The trace is read by a buffer of 65,536 bytes.
+/// With the words `serve` and `serve --fuel N` the records of the trace are served as soon as they stand whole: each answer gives its log lines, its
+/// mail records and its output record, in that order, by a loop over `give` that is lent all that is left for that sink. With the words `record` and
+/// `record --fuel N` it gives its part of the journal file in place of its log lines. With the word `audit` the source is read whole, which makes no
+/// keeper call and leaves log and mail alone; the output is given the line of the verdict on it. With all other words the answer is Usage, and
+/// nothing is read or written. The trace is read by a buffer of 65,536 bytes.
 pub fn serve<S: Source, O: Sink, L: Sink, M: Sink, F: Files, T: Tables>(
     alloc: Global,
     words: &[String],
@@ -40,17 +46,26 @@ pub fn serve<S: Source, O: Sink, L: Sink, M: Sink, F: Files, T: Tables>(
     tables: &mut T,
 ) -> Ended
     // Usage comes exactly where the words are none of the forms, and then nothing is read or written.
-    ensures usage { (result.status ≡ Usage) ↔ (fuel_of (map string_bytes words.now) ≡ None) }
-    ensures untouched { fuel_of (map string_bytes words.now) ≡ None
+    ensures usage { (result.status ≡ Usage) ↔ (task_of (map string_bytes words.now) ≡ None) }
+    ensures untouched { task_of (map string_bytes words.now) ≡ None
         → (trace.new ≡ trace.old) × (out.new ≡ out.old) × (log.new ≡ log.old) × (mail.new ≡ mail.old) × (files.new ≡ files.old) × (tables.new ≡ tables.old)
         × (result.made ≡ 0) × (result.failed ≡ []) }
 
     // What the sinks gained and the keepers hold is the meaning's, as far as the status says, and each answer that gave a byte obeys the access law.
     // The keeper calls that were made are the meaning's, and where a keeper tells its answers, those of them that failed there are the listed ones.
-    ensures run { (fuel : ℕ) (all : List ℕ) → fuel_of (map string_bytes words.now) ≡ Some fuel → S.left trace.old ≡ Some all
-        → RunsFrom result.status (meaning fuel) result.failed all (S.left trace.new)
+    ensures run { (logging : Logging) (fuel : ℕ) (all : List ℕ) → task_of (map string_bytes words.now) ≡ Some (Task.Run logging fuel) → S.left trace.old ≡ Some all
+        → RunsFrom result.status (meaning logging fuel) result.failed all (S.left trace.new)
         (world (L.written log.old) (M.written mail.old) (O.written out.old) (store_of (F.stored files.old) (T.stored tables.old)) (answers (F.answers files.old) (T.answers tables.old)) 0)
         (world (L.written log.new) (M.written mail.new) (O.written out.new) (store_of (F.stored files.new) (T.stored tables.new)) (answers (F.answers files.new) (T.answers tables.new)) result.made) }
+
+    // An audit gives the line of the verdict on the whole text, and has its status; it makes no keeper call, and leaves all else alone. AuditRefused
+    // comes only there, and a bad trace never.
+    ensures audit { (all : List ℕ) → task_of (map string_bytes words.now) ≡ Some Task.Audit → S.left trace.old ≡ Some all
+        → Audits result.status all (O.written out.old) (O.written out.new) }
+    ensures audits { task_of (map string_bytes words.now) ≡ Some Task.Audit
+        → EndsAudit result.status × OnSilent result.status (out.new ≡ out.old) × (log.new ≡ log.old) × (mail.new ≡ mail.old) × (files.new ≡ files.old) × (tables.new ≡ tables.old)
+        × (result.made ≡ 0) × (result.failed ≡ []) }
+    ensures refused { result.status ≡ AuditRefused → task_of (map string_bytes words.now) ≡ Some Task.Audit }
 
     // The failed calls are those that the keepers tell of, in order.
     ensures kept { Kept (keepers 0 [] (F.answers files.old) (F.faults files.old) (T.answers tables.old) (T.faults tables.old))
@@ -66,7 +81,68 @@ pub fn serve<S: Source, O: Sink, L: Sink, M: Sink, F: Files, T: Tables>(
     ensures read { ReadCause result.status (S.faults trace.old) (S.faults trace.new) }
 
     // A good trace over a calm outside is served to its end, unless memory is wanting or something isn't built.
-    ensures complete { (fuel : ℕ) (all : List ℕ) → fuel_of (map string_bytes words.now) ≡ Some fuel → S.left trace.old ≡ Some all → IsGood all
+    ensures complete { (logging : Logging) (fuel : ℕ) (all : List ℕ) → task_of (map string_bytes words.now) ≡ Some (Task.Run logging fuel) → S.left trace.old ≡ Some all → IsGood all
+        → Calm (S.faults trace.old) (S.faults trace.new)
+        (sinks (counts (L.faults log.old) (L.stalls log.old)) (counts (M.faults mail.old) (M.stalls mail.old)) (counts (O.faults out.old) (O.stalls out.old)))
+        (sinks (counts (L.faults log.new) (L.stalls log.new)) (counts (M.faults mail.new) (M.stalls mail.new)) (counts (O.faults out.new) (O.stalls out.new)))
+        (keepers 0 [] (F.answers files.old) (F.faults files.old) (T.answers tables.old) (T.faults tables.old))
+        (keepers result.made result.failed (F.answers files.new) (F.faults files.new) (T.answers tables.new) (T.faults tables.new))
+        → Completes result.status × (result.failed ≡ []) }
+
+    // A text within the limit is audited over a calm outside, unless memory is wanting.
+    ensures answers { (all : List ℕ) → task_of (map string_bytes words.now) ≡ Some Task.Audit → S.left trace.old ≡ Some all → length all ≤ limit
+        → Calm (S.faults trace.old) (S.faults trace.new)
+        (sinks (counts (L.faults log.old) (L.stalls log.old)) (counts (M.faults mail.old) (M.stalls mail.old)) (counts (O.faults out.old) (O.stalls out.old)))
+        (sinks (counts (L.faults log.new) (L.stalls log.new)) (counts (M.faults mail.new) (M.stalls mail.new)) (counts (O.faults out.new) (O.stalls out.new)))
+        (keepers 0 [] (F.answers files.old) (F.faults files.old) (T.answers tables.old) (T.faults tables.old))
+        (keepers result.made result.failed (F.answers files.new) (F.faults files.new) (T.answers tables.new) (T.faults tables.new))
+        → CompletesAudit result.status }
+{
+    match task_of(words) {
+        None => ended(alloc, Status::Usage),
+        Some(Task::Audit) => ended(alloc, audit_source(alloc, trace, out)),
+        Some(Task::Run { logging, fuel }) => serve_site(
+            alloc, logging, fuel, trace, out, log, mail, files, tables,
+        ),
+    }
+}
+
+// An end without keeper calls.
+fn ended(alloc: Global, status: Status) -> Ended
+    ensures { (result.status ≡ status) × (result.made ≡ 0) × (result.failed ≡ []) }
+{
+    Ended {
+        status,
+        made: 0,
+        failed: FailList::new(alloc),
+    }
+}
+
+// Serves a trace over a site, with so many ticks for each request.
+fn serve_site<S: Source, O: Sink, L: Sink, M: Sink, F: Files, T: Tables>(
+    alloc: Global,
+    logging: Logging,
+    fuel: u32,
+    trace: &mut S,
+    out: &mut O,
+    log: &mut L,
+    mail: &mut M,
+    files: &mut F,
+    tables: &mut T,
+) -> Ended
+    ensures serves { EndsRun result.status }
+    ensures run { (all : List ℕ) → S.left trace.old ≡ Some all
+        → RunsFrom result.status (meaning logging fuel) result.failed all (S.left trace.new)
+        (world (L.written log.old) (M.written mail.old) (O.written out.old) (store_of (F.stored files.old) (T.stored tables.old)) (answers (F.answers files.old) (T.answers tables.old)) 0)
+        (world (L.written log.new) (M.written mail.new) (O.written out.new) (store_of (F.stored files.new) (T.stored tables.new)) (answers (F.answers files.new) (T.answers tables.new)) result.made) }
+    ensures kept { Kept (keepers 0 [] (F.answers files.old) (F.faults files.old) (T.answers tables.old) (T.faults tables.old))
+        (keepers result.made result.failed (F.answers files.new) (F.faults files.new) (T.answers tables.new) (T.faults tables.new)) }
+    ensures numbered { RiseWithin 0 result.made result.failed }
+    ensures cause { CausedIn (given_of_status result.status)
+        (sinks (counts (L.faults log.old) (L.stalls log.old)) (counts (M.faults mail.old) (M.stalls mail.old)) (counts (O.faults out.old) (O.stalls out.old)))
+        (sinks (counts (L.faults log.new) (L.stalls log.new)) (counts (M.faults mail.new) (M.stalls mail.new)) (counts (O.faults out.new) (O.stalls out.new))) }
+    ensures read { ReadCause result.status (S.faults trace.old) (S.faults trace.new) }
+    ensures complete { (all : List ℕ) → S.left trace.old ≡ Some all → IsGood all
         → Calm (S.faults trace.old) (S.faults trace.new)
         (sinks (counts (L.faults log.old) (L.stalls log.old)) (counts (M.faults mail.old) (M.stalls mail.old)) (counts (O.faults out.old) (O.stalls out.old)))
         (sinks (counts (L.faults log.new) (L.stalls log.new)) (counts (M.faults mail.new) (M.stalls mail.new)) (counts (O.faults out.new) (O.stalls out.new)))
@@ -78,13 +154,6 @@ pub fn serve<S: Source, O: Sink, L: Sink, M: Sink, F: Files, T: Tables>(
         made: 0,
         failed: FailList::new(alloc),
     };
-    let Some(fuel) = fuel_of(words) else {
-        return Ended {
-            status: Status::Usage,
-            made: calls.made,
-            failed: calls.failed,
-        };
-    };
     let Ok(site) = Site::new(alloc, fuel) else {
         return Ended {
             status: Status::Memory,
@@ -94,7 +163,7 @@ pub fn serve<S: Source, O: Sink, L: Sink, M: Sink, F: Files, T: Tables>(
     };
     let mut run = Run {
         alloc,
-        site,
+        service: Service { site, logging },
         calls,
         number: 1,
         connections: WaitingStreams::new(alloc),
@@ -120,7 +189,7 @@ fn serve_trace<S: Source, F: Files, T: Tables, L: Sink, M: Sink, O: Sink>(
     requires number { run.old.number ≡ 1 }
     requires numbered { AreNumbered run.old.calls }
     requires new { (c : ℕ) → at run.old.connections c ≡ None }
-    ensures serves { result ≢ Usage }
+    ensures serves { EndsRun result }
     ensures kept { Kept (keepers run.old.calls.made run.old.calls.failed (F.answers files.old) (F.faults files.old) (T.answers tables.old) (T.faults tables.old))
         (keepers run.new.calls.made run.new.calls.failed (F.answers files.new) (F.faults files.new) (T.answers tables.new) (T.faults tables.new)) }
     ensures cause { CausedIn (given_of_status result)
@@ -128,7 +197,7 @@ fn serve_trace<S: Source, F: Files, T: Tables, L: Sink, M: Sink, O: Sink>(
         (sinks (counts (L.faults log.new) (L.stalls log.new)) (counts (M.faults mail.new) (M.stalls mail.new)) (counts (O.faults out.new) (O.stalls out.new))) }
     ensures read { ReadCause result (S.faults trace.old) (S.faults trace.new) }
     ensures ran { (K all : List ℕ) → Later run.new.calls.made run.new.calls.failed K → S.left trace.old ≡ Some all
-        → RunsFrom result (meaning run.old.site) K all (S.left trace.new)
+        → RunsFrom result (served run.old.service) K all (S.left trace.new)
         (world (L.written log.old) (M.written mail.old) (O.written out.old) (store_of (F.stored files.old) (T.stored tables.old)) (answers (F.answers files.old) (T.answers tables.old)) run.old.calls.made)
         (world (L.written log.new) (M.written mail.new) (O.written out.new) (store_of (F.stored files.new) (T.stored tables.new)) (answers (F.answers files.new) (T.answers tables.new)) run.new.calls.made) }
 {

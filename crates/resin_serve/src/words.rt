@@ -1,28 +1,59 @@
 //! The words of the program.
 ghost use Rattle.std.specs.Prelude.{◌≡◌, map, string_bytes};
-ghost use Rattle.resin_serve.specs.Words.{is_word, fuel_number, fuel_of};
+ghost use Rattle.resin_serve.specs.Words.{is_word, fuel_number, logging_of, run_with, task_of};
 
-/// The ticks of a request, by the words `serve` (1,000,000) and `serve --fuel N`, with N from 1 to 100,000,000 in decimal without sign or
-/// leading zero; None for all other words. It takes no memory.
-pub(crate) fn fuel_of(words: &[String]) -> Option<u32>
-    ensures { result ≡ fuel_of (map string_bytes words.now) }
+use crate::logging::Logging;
+
+/// What the words ask for.
+#[derive(Clone, Copy, Debug, PartialEq, Eq)]
+pub enum Task {
+    /// A run, with what its answers put into the log, and the ticks of each request.
+    Run { logging: Logging, fuel: u32 },
+    /// An audit.
+    Audit,
+}
+
+/// What the words ask for: a run by `serve` and `record`, with 1,000,000 ticks for each request, or by one of them and `--fuel N`, with N from 1 to
+/// 100,000,000 in decimal without sign or leading zero; an audit by `audit`; None for all other words. It takes no memory.
+pub(crate) fn task_of(words: &[String]) -> Option<Task>
+    ensures { result ≡ task_of (map string_bytes words.now) }
 {
     if words.len() == 1 {
-        if is_word(&words[0], b"serve") {
-            return Some(1_000_000);
+        if is_word(&words[0], b"audit") {
+            return Some(Task::Audit);
         }
-        return None;
+        return run_with(logging_of(&words[0]), Some(1_000_000));
     }
     if words.len() != 3 {
-        return None;
-    }
-    if !is_word(&words[0], b"serve") {
         return None;
     }
     if !is_word(&words[1], b"--fuel") {
         return None;
     }
-    fuel_number(words[2].as_bytes())
+    run_with(logging_of(&words[0]), fuel_number(words[2].as_bytes()))
+}
+
+// What the log of a run tells that begins with this word.
+fn logging_of(word: &String) -> Option<Logging>
+    ensures { result ≡ logging_of (string_bytes word.now) }
+{
+    if is_word(word, b"serve") {
+        return Some(Logging::Denials);
+    }
+    if is_word(word, b"record") {
+        return Some(Logging::Journals);
+    }
+    None
+}
+
+// A run with this log and so much fuel, where both are said.
+fn run_with(logging: Option<Logging>, fuel: Option<u32>) -> Option<Task>
+    ensures { result ≡ run_with logging fuel }
+{
+    match (logging, fuel) {
+        (Some(logging), Some(fuel)) => Some(Task::Run { logging, fuel }),
+        _ => None,
+    }
 }
 
 fn is_word(word: &String, wanted: &[u8]) -> bool

@@ -1,19 +1,19 @@
 use Rattle.std.proofs.Common.{refl, ap, arith, ◌∙◌, length, ◌<◌, length-append}
 use Rattle.resin_trace.proofs.Existing.{some_word}
 use Rattle.resin_serve.specs.declared.give.Given.TheVariants.{Fault, Memory, NotYet}
-use Rattle.resin_serve.specs.Asked.{meaning}
+use Rattle.resin_serve.specs.Asked.{served}
 use Rattle.resin_serve.proofs.Ready_runs.{begin_on, goes_on, stops_at}
 use Rattle.resin_serve.proofs.Keeping.{kept_none, kept_then, passes}
 use Rattle.resin_serve.proofs.Causing.{caused_then}
 use Rattle.resin_serve.proofs.run.serve_ready.Goals as goal
 
 pub records-init : goal.records-init
-records-init g c = record { site = refl; numbered = c.requires; kept = kept_none _; cause = refl; so_far = λ seen b h f. begin_on _ b seen _ _ _ _ _ _ h f }
+records-init g c = record { service = refl; numbered = c.requires; kept = kept_none _; cause = refl; so_far = λ seen b h f. begin_on _ b seen _ _ _ _ _ _ h f }
 
 pub returns-in-Fault-clause-went : goal.returns-in-Fault-clause-went
 returns-in-Fault-clause-went g c = λ seen b hold f.
     let h = rw c.in-Ok-Some.field-0-is at c.in-Ok-Some.ensures in
-    record { on = goes_on _ _ _ b seen _ _ _ _ _ _ _ _ _ _ _ _ _ _ _ _ (c.records.invariant.so_far seen b hold f) h (passes _ _ c.in-Fault.ensures.kept) (ap meaning c.records.invariant.site) c.in-Fault.ensures.ran; stands = tt }
+    record { on = goes_on _ _ _ b seen _ _ _ _ _ _ _ _ _ _ _ _ _ _ _ _ (c.records.invariant.so_far seen b hold f) h (passes _ _ c.in-Fault.ensures.kept) (ap served c.records.invariant.service) c.in-Fault.ensures.ran; stands = tt }
 
 pub returns-in-Fault-clause-cause : goal.returns-in-Fault-clause-cause
 returns-in-Fault-clause-cause g c = caused_then Fault _ _ _ c.records.invariant.cause c.in-Fault.ensures.cause
@@ -24,7 +24,7 @@ returns-in-Fault-clause-kept g c = kept_then _ _ _ c.records.invariant.kept c.in
 pub returns-in-Memory-clause-went : goal.returns-in-Memory-clause-went
 returns-in-Memory-clause-went g c = λ seen b hold f.
     let h = rw c.in-Ok-Some.field-0-is at c.in-Ok-Some.ensures in
-    record { on = goes_on _ _ _ b seen _ _ _ _ _ _ _ _ _ _ _ _ _ _ _ _ (c.records.invariant.so_far seen b hold f) h (passes _ _ c.in-Memory.ensures.kept) (ap meaning c.records.invariant.site) c.in-Memory.ensures.ran; stands = tt }
+    record { on = goes_on _ _ _ b seen _ _ _ _ _ _ _ _ _ _ _ _ _ _ _ _ (c.records.invariant.so_far seen b hold f) h (passes _ _ c.in-Memory.ensures.kept) (ap served c.records.invariant.service) c.in-Memory.ensures.ran; stands = tt }
 
 pub returns-in-Memory-clause-cause : goal.returns-in-Memory-clause-cause
 returns-in-Memory-clause-cause g c = caused_then Memory _ _ _ c.records.invariant.cause c.in-Memory.ensures.cause
@@ -35,7 +35,7 @@ returns-in-Memory-clause-kept g c = kept_then _ _ _ c.records.invariant.kept c.i
 pub returns-in-NotYet-clause-went : goal.returns-in-NotYet-clause-went
 returns-in-NotYet-clause-went g c = λ seen b hold f.
     let h = rw c.in-Ok-Some.field-0-is at c.in-Ok-Some.ensures in
-    record { on = goes_on _ _ _ b seen _ _ _ _ _ _ _ _ _ _ _ _ _ _ _ _ (c.records.invariant.so_far seen b hold f) h (passes _ _ c.in-NotYet.ensures.kept) (ap meaning c.records.invariant.site) c.in-NotYet.ensures.ran; stands = tt }
+    record { on = goes_on _ _ _ b seen _ _ _ _ _ _ _ _ _ _ _ _ _ _ _ _ (c.records.invariant.so_far seen b hold f) h (passes _ _ c.in-NotYet.ensures.kept) (ap served c.records.invariant.service) c.in-NotYet.ensures.ran; stands = tt }
 
 pub returns-in-NotYet-clause-cause : goal.returns-in-NotYet-clause-cause
 returns-in-NotYet-clause-cause g c = caused_then NotYet _ _ _ c.records.invariant.cause c.in-NotYet.ensures.cause
@@ -53,11 +53,11 @@ records-preserved-in-Whole g c =
     let h = rw c.in-Ok-Some.field-0-is at c.in-Ok-Some.ensures in
     let s = c.in-Whole.ensures in
     record {
-      site = s.site ∙ c.records.invariant.site;
+      service = s.service ∙ c.records.invariant.service;
       numbered = s.numbered;
       kept = kept_then _ _ _ c.records.invariant.kept s.kept;
       cause = s.cause ∙ c.records.invariant.cause;
-      so_far = λ seen b hold f. goes_on _ _ _ b seen _ _ _ _ _ _ _ _ _ _ _ _ _ _ _ _ (c.records.invariant.so_far seen b hold f) h (passes _ _ s.kept) (ap meaning c.records.invariant.site) s.ran;
+      so_far = λ seen b hold f. goes_on _ _ _ b seen _ _ _ _ _ _ _ _ _ _ _ _ _ _ _ _ (c.records.invariant.so_far seen b hold f) h (passes _ _ s.kept) (ap served c.records.invariant.service) s.ran;
     }
 
 pub records-preserved : goal.records-preserved
@@ -65,11 +65,11 @@ records-preserved g c =
     let h = rw c.in-Ok-Some.field-0-is at c.in-Ok-Some.ensures in
     let s = c.in-Whole.ensures in
     record {
-      site = s.site ∙ c.records.invariant.site;
+      service = s.service ∙ c.records.invariant.service;
       numbered = s.numbered;
       kept = kept_then _ _ _ c.records.invariant.kept s.kept;
       cause = s.cause ∙ c.records.invariant.cause;
-      so_far = λ seen b hold f. goes_on _ _ _ b seen _ _ _ _ _ _ _ _ _ _ _ _ _ _ _ _ (c.records.invariant.so_far seen b hold f) h (passes _ _ s.kept) (ap meaning c.records.invariant.site) s.ran;
+      so_far = λ seen b hold f. goes_on _ _ _ b seen _ _ _ _ _ _ _ _ _ _ _ _ _ _ _ _ (c.records.invariant.so_far seen b hold f) h (passes _ _ s.kept) (ap served c.records.invariant.service) s.ran;
     }
 
 pub records-smaller : goal.records-smaller

@@ -7,14 +7,14 @@ use Rattle.resin_serve.specs.declared.give.Given.TheVariants.{Whole}
 use Rattle.resin_serve.specs.Ran.{world}
 use Rattle.resin_serve.specs.Gives.{CausedIn, counts, sinks}
 use Rattle.resin_serve.specs.Kept.{Kept, keepers}
-use Rattle.resin_serve.specs.Asked.{meaning}
+use Rattle.resin_serve.specs.Asked.{served}
 use Rattle.resin_serve.specs.Lines.{Hold}
 use Rattle.resin_serve.specs.Top.{WentOn, Beyond}
 use Rattle.resin_serve.proofs.run.serve_ready.Given as goal
 
 abbrev pub invariant-records : goal.invariant-records
 invariant-records g l = record {
-  site : l.run.site ≡ l.fn.run.site;
+  service : l.run.service ≡ l.fn.run.service;
   numbered : AreNumbered l.run.calls;
   kept : Kept (keepers l.fn.run.calls.made l.fn.run.calls.failed (g.F.Files.answers l.fn.files) (g.F.Files.faults l.fn.files) (g.T.Tables.answers l.fn.tables) (g.T.Tables.faults l.fn.tables))
       (keepers l.run.calls.made l.run.calls.failed (g.F.Files.answers l.files) (g.F.Files.faults l.files) (g.T.Tables.answers l.tables) (g.T.Tables.faults l.tables));
@@ -22,7 +22,7 @@ invariant-records g l = record {
       (sinks (counts (g.L.Sink.faults l.fn.log) (g.L.Sink.stalls l.fn.log)) (counts (g.M.Sink.faults l.fn.mail) (g.M.Sink.stalls l.fn.mail)) (counts (g.O.Sink.faults l.fn.out) (g.O.Sink.stalls l.fn.out)))
       (sinks (counts (g.L.Sink.faults l.log) (g.L.Sink.stalls l.log)) (counts (g.M.Sink.faults l.mail) (g.M.Sink.stalls l.mail)) (counts (g.O.Sink.faults l.out) (g.O.Sink.stalls l.out)));
   so_far : (seen : List TraceEvent) (b : ℕ) → Hold l.fn.run.connections seen → Beyond b l.fn.reader
-      → WentOn Whole (meaning l.fn.run.site) b seen l.fn.reader l.reader l.fn.run.number l.run.number l.run.calls.made l.run.calls.failed l.run.connections
+      → WentOn Whole (served l.fn.run.service) b seen l.fn.reader l.reader l.fn.run.number l.run.number l.run.calls.made l.run.calls.failed l.run.connections
       (world (g.L.Sink.written l.fn.log) (g.M.Sink.written l.fn.mail) (g.O.Sink.written l.fn.out) (store_of (g.F.Files.stored l.fn.files) (g.T.Tables.stored l.fn.tables)) (answers (g.F.Files.answers l.fn.files) (g.T.Tables.answers l.fn.tables)) l.fn.run.calls.made)
       (world (g.L.Sink.written l.log) (g.M.Sink.written l.mail) (g.O.Sink.written l.out) (store_of (g.F.Files.stored l.files) (g.T.Tables.stored l.tables)) (answers (g.F.Files.answers l.files) (g.T.Tables.answers l.tables)) l.run.calls.made);
 }

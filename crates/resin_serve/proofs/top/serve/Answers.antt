@@ -1,27 +1,23 @@
-use Rattle.std.proofs.Common.{refl, ◌∙◌}
-use Rattle.resin_serve.proofs.Keeping.{numbered}
-use Rattle.resin_serve.proofs.Request_kept.{later_self}
-use Rattle.resin_serve.proofs.Completing.{completes, no_fails, runs_nothing, runs_with, some_same, kept_new}
+use Rattle.std.proofs.Common.{sym, subst}
+use Rattle.resin_serve.specs.Whole_run.{given_of_status}
+use Rattle.resin_serve.specs.Audits.{CompletesAudit}
+use Rattle.resin_serve.proofs.Ends.{kept_ended, no_task, caused_out, completes_audit}
 use Rattle.resin_serve.proofs.top.serve.Goals as goal
 
-pub returns-in_default-clause-kept : goal.returns-in_default-clause-kept
-returns-in_default-clause-kept g c = kept_new _ _ _ _ _ c.new.ensures
+pub returns-in-None-clause-run : goal.returns-in-None-clause-run
+returns-in-None-clause-run g c = λ logging fuel all f p. no_task _ _ c.in-None.ensures f
 
-pub returns-in_default-new-clause-run : goal.returns-in_default-new-clause-run
-returns-in_default-new-clause-run g c = λ fuel all f p. runs_nothing _ _ all _ _ p
+pub returns-in-None-clause-kept : goal.returns-in-None-clause-kept
+returns-in-None-clause-kept g c = kept_ended _ _ _ _ _ _ c.ended.ensures.1 c.ended.ensures.2
 
-pub returns-in_default-new-clause-kept : goal.returns-in_default-new-clause-kept
-returns-in_default-new-clause-kept g c = kept_new _ _ _ _ _ c.new.ensures
+pub returns-in-Some-Audit-clause-kept : goal.returns-in-Some-Audit-clause-kept
+returns-in-Some-Audit-clause-kept g c = kept_ended _ _ _ _ _ _ c.ended-in-Some-Audit.ensures.1 c.ended-in-Some-Audit.ensures.2
 
-pub returns-clause-run : goal.returns-clause-run
-returns-clause-run g c = λ fuel all f p.
-    runs_with _ _ fuel _ all _ _ _ (c.in-Ok.ensures ∙ some_same _ _ (c.in-Some.ensures ∙ f)) (c.serve_trace-status.ensures.ran _ all (later_self _ _) p)
+pub returns-in-Some-Audit-clause-answers : goal.returns-in-Some-Audit-clause-answers
+returns-in-Some-Audit-clause-answers g c = λ all f p short calm.
+    subst CompletesAudit (sym c.ended-in-Some-Audit.ensures.0)
+    (completes_audit c.audit_source.result all _ _ _ _ _ _ _ _ (c.audit_source.ensures.audits all p) short
+    (caused_out (given_of_status c.audit_source.result) _ _ _ _ c.audit_source.ensures.cause) c.audit_source.ensures.read calm)
 
-pub returns-clause-numbered : goal.returns-clause-numbered
-returns-clause-numbered g c = numbered _ _ c.serve_trace-status.ensures.kept refl c.new.ensures
-
-pub returns-clause-complete : goal.returns-clause-complete
-returns-clause-complete g c = λ fuel all f p good calm. (
-  completes _ _ _ all _ _ _ _ _ _ _ _ _ (c.serve_trace-status.ensures.ran _ all (later_self _ _) p).runs good c.serve_trace-status.ensures.cause c.serve_trace-status.ensures.read calm,
-  no_fails _ _ c.serve_trace-status.ensures.kept c.new.ensures calm.files_stay calm.tables_stay,
-)
+pub returns-in-Some-Run-clause-complete : goal.returns-in-Some-Run-clause-complete
+returns-in-Some-Run-clause-complete g c = λ logging fuel all f p good calm. c.serve_site.ensures.complete all p good calm
