@@ -13,6 +13,7 @@ from pathlib import Path
 from .clients import Client, Lingering
 from .denials import Denial, DenialLog
 from .engine import Engine, serve_words
+from .fault import Wrong
 from .records import MOST_TRACE, Answer, BadRecord, Numbers, end_text, piece_text
 from .responses import CONTINUE, body_length, plain_response, status_of
 from .streams import Request
@@ -83,6 +84,7 @@ class Bridge:
         self._renewing = False
         self._input_watched = False
         self._stopping: float | None = None
+        self._wrong: Wrong | None = None
         self._listening = False
         self._next_tick = 0.0
 
@@ -95,7 +97,8 @@ class Bridge:
     # ---- the loop
 
     def run(self, news: Callable[[], list[str]]) -> None:
-        """Serves until a signal ends it. The terminal gets the news, which are asked for once a second."""
+        """Serves until a signal ends it. The terminal gets the news, which are asked for once a second. Where these raise Wrong it ends as by a
+        signal, and raises that."""
         self._news = news
         raise_file_limit()
         wake, woken = socket.socketpair()
@@ -113,6 +116,8 @@ class Bridge:
             self._end_turn()
         self._close_engine()
         self._terminal.flush()
+        if self._wrong:
+            raise self._wrong
 
     def _end_turn(self) -> None:
         if self._stalled and self._is_ready():
@@ -132,7 +137,11 @@ class Bridge:
         wake.recv(64)
         if self._stopping is not None:
             self._stopping = 0.0
-            return
+        else:
+            self._stop()
+
+    def _stop(self) -> None:
+        """Takes no further requests, and lets open answers finish."""
         self._stopping = time.monotonic() + _STOP_SECONDS
         self._listen(False)
         self._listener.close()
@@ -339,8 +348,7 @@ class Bridge:
     # ---- time
 
     def _tick(self) -> None:
-        for line in self._news():
-            self._terminal.finding(line)
+        self._tell_news()
         for connection in self._lingering.late():
             self._drop_lingering(connection)
         now = time.monotonic()
@@ -350,6 +358,16 @@ class Bridge:
             self._listen(True)
         elif self._stopping is None and select.select([self._listener], [], [], 0)[0]:
             self._make_room(now)
+
+    def _tell_news(self) -> None:
+        if self._stopping is not None:
+            return
+        try:
+            for line in self._news():
+                self._terminal.finding(line)
+        except Wrong as wrong:
+            self._wrong = wrong
+            self._stop()
 
     def _give_up(self, client: Client) -> None:
         """Ends a connection on which nothing came or went for long."""

@@ -12,9 +12,13 @@ from .build import build
 from .check import check_site
 from .diff import differences, read_answer_file
 from .fault import Wrong
+from .folders import check_folder
 from .imports import import_files, read_file
-from .live import check_folder, live
+from .live import live
 from .programs import CHECKER, ENGINE, Program
+from .report import report
+from .report_page import report_page, write_page
+from .report_text import report_text
 from .show import exchanges, show_json, show_text
 from .terminal import complain
 
@@ -58,6 +62,7 @@ def _parser() -> argparse.ArgumentParser:
     _add_import(commands)
     _add_show(commands)
     _add_diff(commands)
+    _add_report(commands)
     _add_check(commands)
     return parser
 
@@ -83,8 +88,8 @@ def _build(chosen: argparse.Namespace) -> int:
     return 0
 
 
-_LIVE = """Serves FOLDER/site/ by HTTP until Ctrl-C. FOLDER is where the engine runs: denial.log, outbox.txt and resin.db stand there. The terminal gets
-a line for each answer (time, method, target, status, bytes of the body, milliseconds) and a red one for each denial."""
+_LIVE = """Serves FOLDER/site/ by HTTP until Ctrl-C. FOLDER is where the engine runs: denial.log and outbox.txt stand there. The terminal gets a line for
+each answer (time, method, target, status, bytes of the body, milliseconds) and a red one for each denial."""
 
 
 def _add_live(commands) -> None:
@@ -167,6 +172,33 @@ def _diff(chosen: argparse.Namespace) -> int:
     lines = list(differences(old, new))
     print("\n".join(lines) if lines else f"the same {len(old)} answers")
     return 1 if lines else 0
+
+
+_REPORT = """Tells what left in a run and what was denied, on one screen. JOURNAL is the journal file of the run (docs/FORMATS.md): `record` of the engine leaves it
+as journal.log in the folder where it runs. PAGE gets each text that left, its labelled ranges coloured by policy; it holds the secrets that a policy
+let through."""
+
+
+def _add_report(commands) -> None:
+    example = "tools/resin report login.trace login.answers mysite/journal.log --html report.html"
+    parser = _add(commands, "report", _report, "what left in a recorded run, and what was denied", _REPORT, example)
+    parser.add_argument("trace", metavar="TRACE", type=Path)
+    parser.add_argument("answers", metavar="ANSWERS", type=Path)
+    parser.add_argument("journal", metavar="JOURNAL", type=Path)
+    parser.add_argument("--html", metavar="PAGE", type=Path, help="write a page of HTML with the texts that left, without scripts or outside links")
+
+
+def _report(chosen: argparse.Namespace) -> int:
+    paths = (chosen.trace, chosen.answers, chosen.journal)
+    made = report(*map(read_file, paths))
+    if chosen.html:
+        write_page(chosen.html, report_page(made, ", ".join(map(str, paths))))
+    for note in made.notes:
+        complain(note)
+    screen = shutil.get_terminal_size()
+    for line in report_text(made, screen.columns, screen.lines):
+        print(line)
+    return 0
 
 
 _CHECK = """Looks at the scripts of FOLDER/site/ before they run: texts that are no programs, calls of functions and names of classes that neither the

@@ -5,13 +5,15 @@ from pathlib import Path
 from .bridge import Bridge, Settings
 from .build import is_stale
 from .fault import Wrong
+from .folders import check_folder
 from .programs import CHECKER, ENGINE
 from .terminal import Terminal
 from .watch import Watch
 
 
 def live(settings: Settings, quiet: bool, checker: str | None) -> int:
-    """Serves until Ctrl-C, and answers the exit status. The chosen checker looks at the site, or the one that is built."""
+    """Serves until Ctrl-C, and answers the exit status. The chosen checker looks at the site, or the one that is built. Raises Wrong where the folder
+    can't be served, or where a link that leads out of it comes while it is."""
     check_folder(settings.folder)
     look = _checker(checker)
     if settings.keep and settings.keep.exists():
@@ -27,9 +29,7 @@ def live(settings: Settings, quiet: bool, checker: str | None) -> int:
     terminal.say(f"serving {settings.folder} at {bridge.url} (Ctrl-C ends it)")
     if isinstance(look, Wrong):
         terminal.say(f"the scripts aren't checked: {look}")
-        bridge.run(list)
-        return 0
-    watch = Watch(look, settings.folder)
+    watch = Watch(None if isinstance(look, Wrong) else look, settings.folder)
     bridge.run(watch.news)
     watch.stop()
     return 0
@@ -43,16 +43,3 @@ def _checker(chosen: str | None) -> Path | Wrong:
         if chosen:
             raise
         return wrong
-
-
-def check_folder(folder: Path) -> None:
-    """Raises Wrong where a folder can't be served: it, or `site/` in it, isn't there, or a link in `site/` leads out of it."""
-    if not folder.is_dir():
-        raise Wrong(f"{folder} is no folder")
-    site = folder / "site"
-    if not site.is_dir():
-        raise Wrong(f"{folder} has no folder site/, which holds the pages")
-    real = site.resolve()
-    for path in site.rglob("*"):
-        if path.is_symlink() and not path.resolve().is_relative_to(real):
-            raise Wrong(f"{path} is a link that leads out of {site}: nothing outside is served")

@@ -3,7 +3,7 @@ import os
 import unittest
 from unittest import mock
 
-from support import Folder, run
+from support import Done, Folder, run
 from resin_tools import build as module
 from resin_tools import programs
 from resin_tools.programs import CHECKER, ENGINE
@@ -45,6 +45,12 @@ class Build(Folder):
         program.chmod(0o755)
         return mock.patch.dict(os.environ, {"PATH": f"{program.parent}:{os.environ['PATH']}"})
 
+    def assert_wrong(self, done: Done, line: str) -> None:
+        """The build ended with this line, behind those that tell what is built."""
+        *before, last = done.stderr.decode().splitlines()
+        self.assertEqual((done.returncode, last), (2, f"resin: {line}"))
+        self.assertTrue(all(words.startswith("resin: building the ") for words in before), before)
+
     def built(self) -> dict[str, str]:
         """What stands in build/."""
         return {path.name: path.read_text() for path in (self.folder / "build").iterdir()}
@@ -58,18 +64,20 @@ class Build(Folder):
             done = run("build", "--proved")
         self.assertEqual((done.returncode, done.stdout.decode()), (0, f"{ENGINE.built}\n{CHECKER.built}\n"))
         self.assertEqual(self.built(), {"resin": "engine\n", "resin_check": "checker\n"})
+        words = "with its proofs, which takes hours from nothing"
+        self.assertEqual(done.stderr.decode(), f"resin: building the engine {words}\nresin: building the checker {words}\n")
 
     def test_what_was_built_stays_where_a_proof_fails(self):
         self.put("build/resin", "before")
         with self.with_rt("exit 1"):
             done = run("build", "--proved")
-        self.assertEqual((done.returncode, done.stderr), (2, b"resin: rt run in crates/resin_cli ended with status 1\n"))
+        self.assert_wrong(done, "rt run in crates/resin_cli ended with status 1")
         self.assertEqual(self.built(), {"resin": "before"})
 
     def test_the_engine_stays_where_the_checker_fails(self):
         with self.with_rt('[ "$*" = "run -- serve" ] && mkdir out && echo engine >out/resin_cli'):
             done = run("build", "--proved")
-        self.assertEqual((done.returncode, done.stderr), (2, b"resin: rt run in crates/resin_check ended with status 1\n"))
+        self.assert_wrong(done, "rt run in crates/resin_check ended with status 1")
         self.assertEqual(self.built(), {"resin": "engine\n"})
 
     def test_no_rattle(self):

@@ -7,7 +7,7 @@ from unittest import mock
 from support import COMMAND, Folder, run
 from resin_tools import programs
 
-COMMANDS = ["build", "live", "import", "show", "diff", "check"]
+COMMANDS = ["build", "live", "import", "show", "diff", "report", "check"]
 
 
 class Words(Folder):
@@ -23,7 +23,7 @@ class Words(Folder):
         rows = [
             [], ["serve"], ["build", "x"], ["live"], ["live", "a", "b"], ["live", "a", "--port"], ["live", "a", "--port", "65536"], ["live", "a", "--port", "-1"],
             ["live", "a", "--fuel", "0"], ["live", "a", "--fuel", "100000001"], ["live", "a", "--limit", "1"], ["live", "a", "--colour"],
-            ["import"], ["import", self.folder / "none"], ["import", self.folder], ["show", "a"], ["show", "none", "none"], ["diff", "none", "none"], ["check"], ["check", "none"],
+            ["import"], ["import", self.folder / "none"], ["import", self.folder], ["show", "a"], ["show", "none", "none"], ["diff", "none", "none"], ["report", "a", "b"], ["report", "none", "none", "none"], ["check"], ["check", "none"],
             ["check", "a", "b"], ["check", ".", "--colour"], ["check", self.folder], ["check", self.folder / "site.d", "--checker"],
         ]
         self.addCleanup(os.chdir, os.getcwd())

@@ -366,6 +366,27 @@ class Starts(Live):
         self.assertIn("has no folder site/", self.complaint(self.data / "site"))
         (self.data / "site" / "out").symlink_to("/etc")
         self.assertIn("leads out of", self.complaint(self.data))
+        (self.folder / "other").mkdir()
+        (self.folder / "other" / "site").symlink_to(self.data / "site")
+        (self.data / "site" / "out").unlink()
+        self.assertIn("leads out of", self.complaint(self.folder / "other"))
+
+    def test_links_within_the_site_are_served(self):
+        (self.data / "site" / "same.txt").symlink_to("note.txt")
+        (self.data / "site" / "loop").symlink_to("loop")
+        self.start()
+        connection = self.connect()
+        connection.sendall(get("/same.txt"))
+        self.assertEqual(read_response(connection), (200, b"a note"))
+
+    def test_a_link_that_leads_out_ends_the_server(self):
+        self.start()
+        connection = self.connect()
+        self.echo(connection, 1)
+        (self.data / "site" / "out").symlink_to("/etc")
+        self.server.wait_line("leads out of")
+        self.assertEqual(self.server.end(None), 2)
+        self.assertTrue(is_closed(connection))
 
     def test_a_trace_that_is_there_is_not_written_over(self):
         kept = self.put("kept", "mine")

@@ -1,0 +1,5 @@
+pub mod Texts
+pub mod Policies
+pub mod Reading
+pub mod Reads
+pub mod Laws

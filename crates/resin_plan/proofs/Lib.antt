@@ -1,0 +1,10 @@
+pub mod Sorting
+pub mod CellOrder
+pub mod Blaming
+pub mod Runs
+pub mod Turns
+pub mod Lists
+pub mod Loops
+pub mod KeptNames
+pub mod Causes
+pub mod ConditionLaws

@@ -1,0 +1,9 @@
+pub mod TableCalls
+pub mod Plans
+pub mod Blame
+pub mod Columns
+pub mod Cells
+pub mod Refusals
+pub mod Conditions
+pub mod Rows
+pub mod Statements

@@ -1,0 +1,400 @@
+//! A keeper of tables in memory that notes its calls. It holds tables of any shape.
+
+ghost use Rattle.std.specs.Prelude.{◌≡◌};
+ghost use Rattle.resin_base.specs.Causes.{HasCause};
+
+use crate::show::{push_bytes, push_cell};
+use resin_base::{
+    Bytes, Cell, Cells, Column, Columns, FailList, KeepFault, Kind, Row, Rows, Tables,
+};
+use std::alloc::{AllocError, Global};
+
+/// A table as it is held.
+#[derive(Drop)]
+struct Held {
+    name: Bytes,
+    columns: Columns,
+    rows: Vec<Row>,
+}
+
+/// Tables, of which listed calls fail.
+#[derive(Drop)]
+pub(crate) struct Board {
+    alloc: Global,
+    tables: Vec<Held>,
+    /// The numbers of the calls that fail, from 1.
+    pub(crate) fail: FailList,
+    made: u64,
+    /// The calls since it was last cleared.
+    pub(crate) log: String,
+}
+
+fn copied(alloc: Global, cell: &Cell) -> Result<Cell, AllocError> {
+    match cell {
+        Cell::Null => Ok(Cell::Null),
+        Cell::Int(n) => Ok(Cell::Int(*n)),
+        Cell::Text(text) => Ok(Cell::Text(Bytes::from_slice(alloc, text.as_slice())?)),
+    }
+}
+
+fn copied_cells(alloc: Global, cells: &[Cell]) -> Result<Cells, AllocError> {
+    let mut copy = Cells::new(alloc);
+    for cell in cells {
+        copy.push(copied(alloc, cell)?)?;
+    }
+    Ok(copy)
+}
+
+fn copied_columns(alloc: Global, columns: &[Column]) -> Result<Columns, AllocError> {
+    let mut copy = Columns::new(alloc);
+    for column in columns {
+        copy.push(Column {
+            name: Bytes::from_slice(alloc, column.name.as_slice())?,
+            kind: column.kind,
+        })?;
+    }
+    Ok(copy)
+}
+
+fn push_cells(out: &mut String, cells: &[Cell]) -> Result<(), AllocError> {
+    for cell in cells {
+        out.push(' ')?;
+        push_cell(out, cell)?;
+    }
+    Ok(())
+}
+
+fn push_columns(out: &mut String, columns: &[Column]) -> Result<(), AllocError> {
+    for column in columns {
+        out.push(' ')?;
+        push_bytes(out, column.name.as_slice())?;
+        out.push_str(match column.kind {
+            Kind::Integer => ":I",
+            Kind::Text => ":T",
+        })?;
+    }
+    Ok(())
+}
+
+/// A cell as a row of the input has it.
+fn cell_of(alloc: Global, word: &str) -> Result<Cell, AllocError> {
+    if let Some(text) = word.strip_prefix('\'') {
+        return Ok(Cell::Text(Bytes::from_slice(alloc, text.as_bytes())?));
+    }
+    match word.parse::<i64>() {
+        Ok(n) => Ok(Cell::Int(n)),
+        Err(_) => Ok(Cell::Null),
+    }
+}
+
+fn next_number(rows: &[Row]) -> Option<u64> {
+    let last = match rows.last() {
+        Some(row) => row.number,
+        None => 0,
+    };
+    if last < 9_223_372_036_854_775_807 {
+        Some(last + 1)
+    } else {
+        None
+    }
+}
+
+impl Held {
+    /// Where a row stands; their number where it isn't there.
+    fn row_place(&self, number: u64) -> usize {
+        for i in 0..self.rows.len() {
+            if self.rows[i].number == number {
+                return i;
+            }
+        }
+        self.rows.len()
+    }
+
+    /// Puts a row last, if its cells fit, and tells its number.
+    fn add(&mut self, alloc: Global, cells: &[Cell]) -> Result<Option<u64>, AllocError> {
+        if self.columns.as_slice().len() != cells.len() {
+            return Ok(None);
+        }
+        let Some(number) = next_number(self.rows.as_slice()) else {
+            return Ok(None);
+        };
+        let cells = copied_cells(alloc, cells)?;
+        self.rows.push(Row { number, cells })?;
+        Ok(Some(number))
+    }
+
+    /// Sets the cells of a row, if it is there and they fit.
+    fn set(&mut self, alloc: Global, number: u64, cells: &[Cell]) -> Result<bool, AllocError> {
+        let k = self.row_place(number);
+        if k >= self.rows.len() || self.columns.as_slice().len() != cells.len() {
+            return Ok(false);
+        }
+        let cells = copied_cells(alloc, cells)?;
+        self.rows[k].cells = cells;
+        Ok(true)
+    }
+
+    /// Takes a row out, if it is there.
+    fn take_out(&mut self, number: u64) -> bool {
+        let k = self.row_place(number);
+        if k >= self.rows.len() {
+            return false;
+        }
+        let _row = self.rows.remove(k);
+        true
+    }
+}
+
+impl Board {
+    fn new(alloc: Global) -> Board {
+        Board {
+            alloc,
+            tables: Vec::new(alloc),
+            fail: FailList::new(alloc),
+            made: 0,
+            log: String::new(alloc),
+        }
+    }
+
+    pub(crate) fn put_table(&mut self, alloc: Global, field: &str) -> Result<(), AllocError> {
+        let (name, words) = match field.split_once(' ') {
+            Some(parts) => parts,
+            None => (field, ""),
+        };
+        let mut columns = Columns::new(alloc);
+        for word in words.split(' ') {
+            if let Some((name, kind)) = word.split_once(':') {
+                columns.push(Column {
+                    name: Bytes::from_slice(alloc, name.as_bytes())?,
+                    kind: if kind == "I" {
+                        Kind::Integer
+                    } else {
+                        Kind::Text
+                    },
+                })?;
+            }
+        }
+        self.tables.push(Held {
+            name: Bytes::from_slice(alloc, name.as_bytes())?,
+            columns,
+            rows: Vec::new(alloc),
+        })?;
+        Ok(())
+    }
+
+    pub(crate) fn put_row(&mut self, alloc: Global, field: &str) -> Result<(), AllocError> {
+        let mut cells = Cells::new(alloc);
+        let mut number = None;
+        for word in field.split(' ') {
+            match word.strip_prefix('#') {
+                Some(digits) => number = digits.parse::<u64>().ok(),
+                None => cells.push(cell_of(alloc, word)?)?,
+            }
+        }
+        if let Some(table) = self.tables.last_mut() {
+            let number = number.or(next_number(table.rows.as_slice())).unwrap_or(0);
+            table.rows.push(Row { number, cells })?;
+        }
+        Ok(())
+    }
+
+    /// Adds the tables with their rows.
+    pub(crate) fn push_tables(&self, out: &mut String) -> Result<(), AllocError> {
+        for table in self.tables.as_slice() {
+            out.push_str("{")?;
+            push_bytes(out, table.name.as_slice())?;
+            push_columns(out, table.columns.as_slice())?;
+            for row in table.rows.as_slice() {
+                let number = row.number;
+                write!(out, "; {number}")?;
+                push_cells(out, row.cells.as_slice())?;
+            }
+            out.push_str("}")?;
+        }
+        Ok(())
+    }
+
+    /// Where a table stands; their number where it isn't there.
+    fn place(&self, name: &[u8]) -> usize {
+        for i in 0..self.tables.len() {
+            if self.tables[i].name.as_slice() == name {
+                return i;
+            }
+        }
+        self.tables.len()
+    }
+
+    /// Begins a call: whether it fails.
+    fn begin(&mut self, call: &str, name: &[u8]) -> Result<(), KeepFault> {
+        self.made = self.made.saturating_add(1);
+        self.log.push(' ')?;
+        self.log.push_str(call)?;
+        self.log.push(' ')?;
+        push_bytes(&mut self.log, name)?;
+        let made = self.made;
+        if self.fail.lists(made) {
+            self.log.push_str(" failed;")?;
+            return Err(KeepFault::Failed);
+        }
+        Ok(())
+    }
+
+    fn made_table(&mut self, name: &[u8], columns: &Columns) -> Result<bool, KeepFault> {
+        self.begin("create", name)?;
+        push_columns(&mut self.log, columns.as_slice())?;
+        if self.place(name) < self.tables.len() {
+            self.log.push_str(" false;")?;
+            return Ok(false);
+        }
+        let held = Held {
+            name: Bytes::from_slice(self.alloc, name)?,
+            columns: copied_columns(self.alloc, columns.as_slice())?,
+            rows: Vec::new(self.alloc),
+        };
+        if self.tables.push(held).is_err() {
+            return Err(KeepFault::Memory);
+        }
+        self.log.push_str(" true;")?;
+        Ok(true)
+    }
+
+    fn told_columns(&mut self, name: &[u8]) -> Result<Option<Columns>, KeepFault> {
+        self.begin("columns", name)?;
+        let i = self.place(name);
+        if i >= self.tables.len() {
+            self.log.push_str(" none;")?;
+            return Ok(None);
+        }
+        let columns = copied_columns(self.alloc, self.tables[i].columns.as_slice())?;
+        self.log.push(';')?;
+        Ok(Some(columns))
+    }
+
+    fn told_rows(&mut self, name: &[u8]) -> Result<Rows, KeepFault> {
+        self.begin("rows", name)?;
+        let mut rows = Rows::new(self.alloc);
+        let i = self.place(name);
+        if i < self.tables.len() {
+            for row in self.tables[i].rows.as_slice() {
+                rows.push(Row {
+                    number: row.number,
+                    cells: copied_cells(self.alloc, row.cells.as_slice())?,
+                })?;
+            }
+        }
+        self.log.push(';')?;
+        Ok(rows)
+    }
+
+    fn added_row(&mut self, name: &[u8], cells: &Cells) -> Result<Option<u64>, KeepFault> {
+        self.begin("insert", name)?;
+        push_cells(&mut self.log, cells.as_slice())?;
+        let mut number = None;
+        let i = self.place(name);
+        if i < self.tables.len() {
+            number = self.tables[i].add(self.alloc, cells.as_slice())?;
+        }
+        match number {
+            Some(number) => write!(self.log, " {number};")?,
+            None => self.log.push_str(" none;")?,
+        }
+        Ok(number)
+    }
+
+    fn push_whether(&mut self, was: bool) -> Result<bool, KeepFault> {
+        self.log.push_str(if was { " true;" } else { " false;" })?;
+        Ok(was)
+    }
+
+    fn changed_row(&mut self, name: &[u8], row: u64, cells: &Cells) -> Result<bool, KeepFault> {
+        self.begin("update", name)?;
+        write!(self.log, " {row}:")?;
+        push_cells(&mut self.log, cells.as_slice())?;
+        let i = self.place(name);
+        let mut was = false;
+        if i < self.tables.len() {
+            was = self.tables[i].set(self.alloc, row, cells.as_slice())?;
+        }
+        self.push_whether(was)
+    }
+
+    fn taken_row(&mut self, name: &[u8], row: u64) -> Result<bool, KeepFault> {
+        self.begin("delete", name)?;
+        write!(self.log, " {row}")?;
+        let i = self.place(name);
+        let mut was = false;
+        if i < self.tables.len() {
+            was = self.tables[i].take_out(row);
+        }
+        self.push_whether(was)
+    }
+}
+
+/// Tables in memory, which count how often a call failed.
+#[derive(Drop)]
+pub(crate) struct Shelf {
+    pub(crate) board: Board,
+    faults: u64,
+}
+
+impl Shelf {
+    pub(crate) fn new(alloc: Global) -> Shelf {
+        Shelf {
+            board: Board::new(alloc),
+            faults: 0,
+        }
+    }
+
+    // Counts a call's fault.
+    fn counted<A>(&mut self, answer: Result<A, KeepFault>) -> Result<A, KeepFault>
+        ensures same { result ≡ answer }
+        ensures cause { HasCause self.old.faults self.new.faults result }
+    {
+        if let Err(KeepFault::Failed) = &answer {
+            self.faults = self.faults.saturating_add(1);
+        }
+        answer
+    }
+}
+
+impl Tables for Shelf {
+    ghost use Rattle.std.specs.Prelude.{None};
+
+    ghost stored = { λ _. None };
+
+    ghost faults = { λ s. s.faults };
+
+    ghost answers = { λ _. None };
+
+    ghost whole = { λ _. tt };
+
+    fn create(&mut self, name: &[u8], columns: &Columns) -> Result<bool, KeepFault> {
+        let answer = self.board.made_table(name, columns);
+        self.counted(answer)
+    }
+
+    fn columns(&mut self, name: &[u8]) -> Result<Option<Columns>, KeepFault> {
+        let answer = self.board.told_columns(name);
+        self.counted(answer)
+    }
+
+    fn rows(&mut self, name: &[u8]) -> Result<Rows, KeepFault> {
+        let answer = self.board.told_rows(name);
+        self.counted(answer)
+    }
+
+    fn insert(&mut self, name: &[u8], cells: &Cells) -> Result<Option<u64>, KeepFault> {
+        let answer = self.board.added_row(name, cells);
+        self.counted(answer)
+    }
+
+    fn update(&mut self, name: &[u8], row: u64, cells: &Cells) -> Result<bool, KeepFault> {
+        let answer = self.board.changed_row(name, row, cells);
+        self.counted(answer)
+    }
+
+    fn delete(&mut self, name: &[u8], row: u64) -> Result<bool, KeepFault> {
+        let answer = self.board.taken_row(name, row);
+        self.counted(answer)
+    }
+}

@@ -1,0 +1,56 @@
+//! Freezes policies and reads policy texts, one a line, and prints the line with its answer behind ` = `. A line that begins with `#` is a heading and is
+//! printed as it is. Arguments are split by `|`:
+//!
+//! - `freeze|CLASS|NAME VALUE|NAME VALUE..`: the policy text of an object;
+//! - `thaw|TEXT`: the class and the fields of a policy text, and whether they freeze to the same text;
+//! - `front|BYTES`: the policy text at the front of bytes, and what is behind it.
+//!
+//! A value is `null`, `true`, `false`, an integer, a text between `'`, the number of an object behind `#`, or `[ KEY: VALUE VALUE ]`; labels stand between
+//! braces, as in `'ab{1}c{}'` and `7{2}`. In bytes `\\s` stands for a space, `\\n` for a newline, and a backslash before another byte for that byte.
+//!
+//! The texts were worked out by PHP's `serialize` of an object with these public properties, or by hand from the format.
+#![tactic(auto)]
+
+mod fields;
+mod policies;
+mod stop;
+mod values;
+
+use crate::stop::Stop;
+use std::alloc::{AllocError, Global};
+use std::io;
+
+// Puts the answer of a row last.
+fn answer(alloc: Global, out: &mut String, row: &[&str]) -> Result<(), Stop> {
+    let argument = row.get(1).copied().unwrap_or("");
+    match row.get(0).copied().unwrap_or("") {
+        "freeze" => policies::push_frozen(alloc, out, argument, row.get(2..).unwrap_or(&[])),
+        "thaw" => policies::push_thawed(alloc, out, argument),
+        "front" => policies::push_front(alloc, out, argument),
+        _ => Err(Stop::Unreadable),
+    }
+}
+
+// The line with its answer.
+fn answered(alloc: Global, line: &str) -> Result<String, AllocError> {
+    let mut out = String::from_str(alloc, line)?;
+    if line.starts_with('#') {
+        return Ok(out);
+    }
+    out.push_str(" =")?;
+    let row: Vec<&str> = line.split('|').collect(alloc)?;
+    match answer(alloc, &mut out, &row) {
+        Ok(()) => {}
+        Err(stop) => write!(out, " {}", stop.name())?,
+    }
+    Ok(out)
+}
+
+fn main(rt: HostRuntime) -> io::Result<()> {
+    for line in rt.lines(rt.alloc()) {
+        let line = line?;
+        let text = answered(rt.alloc(), line.as_str())?;
+        rt.println(text)?;
+    }
+    Ok(())
+}

@@ -1,0 +1,41 @@
+//! Why a row has no answer.
+
+use resin_lstr::TextFault;
+use resin_value::ArrFault;
+use std::alloc::AllocError;
+
+/// Why a call gives no answer.
+#[derive(Clone, Copy)]
+pub enum Stop {
+    /// The row is off the form that the program reads.
+    Unreadable,
+    Memory,
+}
+
+impl Stop {
+    /// The name that is printed.
+    pub fn name(self) -> &'static str {
+        match self {
+            Stop::Unreadable => "Unreadable",
+            Stop::Memory => "Memory",
+        }
+    }
+}
+
+impl From<AllocError> for Stop {
+    fn from(_error: AllocError) -> Stop {
+        Stop::Memory
+    }
+}
+
+impl From<TextFault> for Stop {
+    fn from(_fault: TextFault) -> Stop {
+        Stop::Unreadable
+    }
+}
+
+impl From<ArrFault> for Stop {
+    fn from(_fault: ArrFault) -> Stop {
+        Stop::Unreadable
+    }
+}
