@@ -7,7 +7,7 @@ mod fault;
 use crate::fault::Fault;
 use resin_edge::{Folder, StdSink, StdSource};
 use resin_memory::CalmTables;
-use resin_serve::{Status, serve};
+use resin_serve::{Ended, serve};
 use std::fs::{File, OpenOptions};
 use std::process::ExitCode;
 use std::{env, io};
@@ -40,24 +40,30 @@ fn log_file(rt: &HostRuntime, words: &[String]) -> Result<File, Fault> {
 }
 
 // Opens the outside in its order, whatever the words are, and serves.
-fn run(rt: &HostRuntime) -> Result<Status, Fault> {
+fn run(rt: &HostRuntime) -> Result<Ended, Fault> {
     let alloc = rt.alloc();
     let words = words(rt)?;
     let mut trace = StdSource::new(rt.stdin());
     let mut out = StdSink::new(rt.stdout());
     let mut log = StdSink::new(log_file(rt, &words)?);
     let mut mail = StdSink::new(appended(rt, "outbox.txt")?);
-    let files = Folder::new(alloc, rt.clone()?, "site")?;
-    let tables = CalmTables::new(alloc);
-    let ended = serve(
-        alloc, &words, &mut trace, &mut out, &mut log, &mut mail, files, tables,
-    );
-    Ok(ended.status)
+    let mut files = Folder::new(alloc, rt.clone()?, "site")?;
+    let mut tables = CalmTables::new(alloc);
+    Ok(serve(
+        alloc,
+        &words,
+        &mut trace,
+        &mut out,
+        &mut log,
+        &mut mail,
+        &mut files,
+        &mut tables,
+    ))
 }
 
 fn main(rt: HostRuntime) -> ExitCode {
     let fault = match run(&rt) {
-        Ok(status) => Fault::of_status(&status),
+        Ok(ended) => Fault::of_status(&ended.status),
         Err(fault) => Some(fault),
     };
     match fault {

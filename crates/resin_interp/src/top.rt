@@ -1,4 +1,4 @@
-//! The program of a file, and calls by name from outside.
+//! The program of a file, and calls by name from outside, over a run.
 ghost use Rattle.resin_evaluation.specs.Invoke.{block};
 ghost use Rattle.resin_evaluation.specs.Programs.{evals, file, flow_of, function_call, most_open, program, program_end, statement_in};
 ghost use Rattle.resin_evaluation.specs.Writes.{context_of as page_context, leave};
@@ -94,7 +94,7 @@ fn program_end(end: Result<Course, Stop>) -> Result<Flow, Stop>
 /// Runs a file: its functions and classes are declared in their order, then its statements run. It answers how the program ends: behind its last statement, by `return` or by
 /// `exit`; or why it doesn't: an exception that nothing caught, a fault with its line, a keeper call that failed, or want of memory. Then the journal, what the
 /// keepers hold and the calls made stand at a moment that the program goes through; with every other end all is as the program leaves it.
-pub fn run_program<F: Files, T: Tables>(
+pub fn perform<F: Files, T: Tables>(
     alloc: Global,
     run: &mut Run<F, T>,
     p: &Program,
@@ -117,8 +117,8 @@ fn copied(alloc: Global, args: &[Value]) -> Result<Values, AllocError>
 }
 
 /// Calls a function by its name with these arguments, as a call in a script does whose arguments are evaluated; UndefinedFunction comes where there is none of the name. It
-/// stops as `run_program` does.
-pub fn call_function<F: Files, T: Tables>(
+/// stops as `perform` does.
+pub fn perform_call<F: Files, T: Tables>(
     alloc: Global,
     run: &mut Run<F, T>,
     name: &[u8],
@@ -137,7 +137,7 @@ pub fn call_function<F: Files, T: Tables>(
     Caller { by: &evaluator }.call_found(run, name, &callee, own)
 }
 
-/// A text leaves with the body of the answer: the filters of its channel are asked, then its policies, and then it goes out. It stops as `run_program` does.
+/// A text leaves with the body of the answer: the filters of its channel are asked, then its policies, and then it goes out. It stops as `perform` does.
 pub fn leave_page<F: Files, T: Tables>(
     alloc: Global,
     run: &mut Run<F, T>,

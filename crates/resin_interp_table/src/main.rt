@@ -11,7 +11,7 @@
 ghost use Rattle.std.specs.Prelude.{◌≤◌, length};
 
 use resin_base::{Calls, FailList};
-use resin_interp::{Finished, Flow, Machine, Run, Stop, call_function, run_program};
+use resin_interp::{Finished, Flow, Machine, Stop, call_function, run_program};
 use resin_journal::denial_line;
 use resin_lex::{ParseFault, Program};
 use resin_lstr::LText;
@@ -146,30 +146,27 @@ struct Fuel {
     is_asked: bool,
 }
 
-/// A run over keepers that hold nothing, with so many ticks.
-fn begun(alloc: Global, ticks: u32) -> Result<Run<CalmFiles, CalmTables>, AllocError> {
-    let machine = Machine::new(alloc, ticks, 1)?;
-    Ok(Run {
-        machine,
-        files: CalmFiles::new(alloc),
-        tables: CalmTables::new(alloc),
-        calls: Calls {
-            made: 0,
-            failed: FailList::new(alloc),
-        },
-    })
+/// Runs a program over keepers that hold nothing.
+fn ended(alloc: Global, m: &mut Machine, p: &Program) -> Result<Flow, Stop> {
+    let mut files = CalmFiles::new(alloc);
+    let mut tables = CalmTables::new(alloc);
+    let mut calls = Calls {
+        made: 0,
+        failed: FailList::new(alloc),
+    };
+    run_program(alloc, m, p, &mut files, &mut tables, &mut calls)
 }
 
 fn run_parsed(alloc: Global, fuel: &Fuel, p: &Program) -> Result<String, AllocError> {
-    let mut run = begun(alloc, fuel.ticks)?;
-    let end = run_program(alloc, &mut run, p);
-    let mut out = shown_end(alloc, &run.machine, &end)?;
+    let mut m = Machine::new(alloc, fuel.ticks, 1)?;
+    let end = ended(alloc, &mut m, p);
+    let mut out = shown_end(alloc, &m, &end)?;
     if fuel.is_asked {
-        let spent = u64::from(fuel.ticks).saturating_sub(run.machine.ticks());
+        let spent = u64::from(fuel.ticks).saturating_sub(m.ticks());
         let ticks = format!(in alloc; " | {spent}")?;
         out.push_str(ticks.as_str())?;
     }
-    let left = run.machine.finish();
+    let left = m.finish();
     push_left(alloc, &mut out, &left)?;
     Ok(out)
 }
@@ -198,19 +195,38 @@ fn texts(alloc: Global, pieces: &str) -> Result<Values, AllocError> {
     Ok(values)
 }
 
+/// Calls a function by its name, over keepers that hold nothing.
+fn answered(alloc: Global, m: &mut Machine, name: &str, args: &Values) -> Result<Value, Stop> {
+    let mut files = CalmFiles::new(alloc);
+    let mut tables = CalmTables::new(alloc);
+    let mut calls = Calls {
+        made: 0,
+        failed: FailList::new(alloc),
+    };
+    call_function(
+        alloc,
+        m,
+        name.as_bytes(),
+        args,
+        &mut files,
+        &mut tables,
+        &mut calls,
+    )
+}
+
 /// Calls the function whose name stands before the first `|`, with the texts behind it.
 fn called(alloc: Global, line: &str) -> Result<String, AllocError> {
     let (name, args) = match line.split_once('|') {
         Some((name, rest)) => (name, texts(alloc, rest)?),
         None => (line, Values::new(alloc)),
     };
-    let mut run = begun(alloc, 100_000)?;
-    let end = call_function(alloc, &mut run, name.as_bytes(), &args);
+    let mut m = Machine::new(alloc, 100_000, 1)?;
+    let end = answered(alloc, &mut m, name, &args);
     let mut out = match &end {
-        Ok(v) => shown_value(alloc, &run.machine, v)?,
-        Err(stop) => shown_stop(alloc, &run.machine, stop)?,
+        Ok(v) => shown_value(alloc, &m, v)?,
+        Err(stop) => shown_stop(alloc, &m, stop)?,
     };
-    let left = run.machine.finish();
+    let left = m.finish();
     push_left(alloc, &mut out, &left)?;
     Ok(out)
 }

@@ -1,6 +1,7 @@
 //! One request.
 ghost use Rattle.std.specs.Prelude.{◌≡◌, ◌≤◌, length, Some};
 ghost use Rattle.resin_lstr.specs.Texts.{LONGEST};
+ghost use Rattle.resin_program.specs.Runs.{Does, seen, world};
 ghost use Rattle.resin_invoke.specs.Running.{Performs};
 ghost use Rattle.resin_evaluation.specs.Runs.{Runs};
 ghost use Rattle.resin_request.specs.Requests.{has_filters, put_inputs, set_inputs, run_entry, run_boot, run_script, send_file, serve_text, serve_file, serve_found, request_program};
@@ -8,8 +9,9 @@ ghost use Rattle.resin_request.specs.Requests.{has_filters, put_inputs, set_inpu
 use crate::buffers::end_buffers;
 use crate::paths::{BOOT_PATH, is_open, is_script};
 use crate::source::{run_source, thaw};
-use resin_base::{Entry, Files, Tables};
+use resin_base::{Calls, Entry, Files, Tables};
 use resin_inputs::InputArrays;
+use resin_interp::lent::with_run;
 use resin_interp::{Machine, Run, Stop, leave_page};
 use resin_journal::Channel;
 use resin_steps::reads::plain;
@@ -173,18 +175,8 @@ fn serve_entry<F: Files, T: Tables>(
     Ok(Finish::Answered)
 }
 
-/// One request for a path, from the state in which a request begins. A path that isn't open to requests is missing, and nothing is read. The file
-/// is read; where there is none, nothing else happens. `boot.php`
-/// is read and, where it is there, runs with empty inputs: its top-level `return`, or an `exit` anywhere, ends it alone. The inputs are set. A
-/// script runs, and another file goes out as one write on `http`. What open output buffers hold goes out as one more write.
-///
-/// It answers `NotYet` where it meets stored labels, a program that isn't all built, or filters on the channels `input`, `code` or `file`.
-///
-/// # Errors
-///
-/// An uncaught exception; a script fault with its line, which is 0 where no statement runs; `Keeper` exactly where the last keeper call
-/// failed. After `Memory` the state, the keepers and the calls are as after some of the request's steps.
-pub fn run_request<F: Files, T: Tables>(
+// One request over a run.
+fn perform_request<F: Files, T: Tables>(
     alloc: Global,
     run: &mut Run<F, T>,
     path: &[u8],
@@ -200,4 +192,33 @@ pub fn run_request<F: Files, T: Tables>(
         None => Ok(Finish::Missing),
         Some(e) => serve_entry(alloc, run, path, inputs, &e),
     }
+}
+
+/// One request for a path, from the state in which a request begins. A path that isn't open to requests is missing, and nothing is read. The file
+/// is read; where there is none, nothing else happens. `boot.php`
+/// is read and, where it is there, runs with empty inputs: its top-level `return`, or an `exit` anywhere, ends it alone. The inputs are set. A
+/// script runs, and another file goes out as one write on `http`. What open output buffers hold goes out as one more write.
+///
+/// It answers `NotYet` where it meets stored labels, a program that isn't all built, or filters on the channels `input`, `code` or `file`.
+///
+/// # Errors
+///
+/// An uncaught exception; a script fault with its line, which is 0 where no statement runs; `Keeper` exactly where the last keeper call
+/// failed. After `Memory` the state, the keepers and the calls are as after some of the request's steps.
+pub fn run_request<F: Files, T: Tables>(
+    alloc: Global,
+    path: &[u8],
+    inputs: InputArrays,
+    m: &mut Machine,
+    files: &mut F,
+    tables: &mut T,
+    calls: &mut Calls,
+) -> Result<Finish, Stop>
+    ensures { Does (request_program path.now inputs)
+        (world m.old (seen (F.stored files.old) (F.faults files.old) (F.answers files.old)) (seen (T.stored tables.old) (T.faults tables.old) (T.answers tables.old)) calls.old) result
+        (world m.new (seen (F.stored files.new) (F.faults files.new) (F.answers files.new)) (seen (T.stored tables.new) (T.faults tables.new) (T.answers tables.new)) calls.new) }
+{
+    with_run(m, files, tables, calls, |run| {
+        perform_request(alloc, run, path, inputs)
+    })
 }

@@ -10,7 +10,7 @@ ghost use Rattle.resin_request.specs.Sources.{read_as, run_built, run_source, ha
 
 use resin_base::{Entry, Files, Tables};
 use resin_built::is_built;
-use resin_interp::{Machine, Run, Stop, run_program};
+use resin_interp::{Machine, Run, Stop, perform};
 use resin_lex::{ParseFault, line_of};
 use resin_parse::program;
 use resin_scalar::ScriptFault;
@@ -59,7 +59,7 @@ fn run_built<F: Files, T: Tables>(
     if !is_built(p) {
         return Ok(false);
     }
-    let _flow = run_program(alloc, run, p)?;
+    let _flow = perform(alloc, run, p)?;
     Ok(true)
 }
 

@@ -51,7 +51,7 @@ fn site_of(alloc: Global, settings: &str, fields: &str) -> Result<FakeFiles, All
 /// What a run left: how it ended, its log and its mail.
 #[derive(Drop)]
 pub struct Left {
-    pub ended: Ended<FakeFiles, CalmTables>,
+    pub ended: Ended,
     log: CalmSink,
     mail: CalmSink,
 }
@@ -62,14 +62,21 @@ fn served<S: Source, O: Sink>(
     words: &str,
     source: &mut S,
     out: &mut O,
-    files: FakeFiles,
+    files: &mut FakeFiles,
 ) -> Result<Left, AllocError> {
     let words = words_of(alloc, words)?;
     let mut log = CalmSink::new(alloc);
     let mut mail = CalmSink::new(alloc);
-    let tables = CalmTables::new(alloc);
+    let mut tables = CalmTables::new(alloc);
     let ended = serve(
-        alloc, &words, source, out, &mut log, &mut mail, files, tables,
+        alloc,
+        &words,
+        source,
+        out,
+        &mut log,
+        &mut mail,
+        files,
+        &mut tables,
     );
     Ok(Left { ended, log, mail })
 }
@@ -138,8 +145,8 @@ pub fn calm_run(
 ) -> Result<(Left, CalmSink), AllocError> {
     let mut source = CalmSource::new(trace);
     let mut out = CalmSink::new(alloc);
-    let files = site_of(alloc, "", files)?;
-    let left = served(alloc, words, &mut source, &mut out, files)?;
+    let mut files = site_of(alloc, "", files)?;
+    let left = served(alloc, words, &mut source, &mut out, &mut files)?;
     Ok((left, out))
 }
 
@@ -172,8 +179,8 @@ pub fn fake(alloc: Global, settings: &str, fields: &str) -> Result<String, Alloc
     let (trace, files) = cut(rest, '|');
     let mut source = source_of(alloc, settings, trace)?;
     let mut out = sink_of(alloc, settings)?;
-    let files = site_of(alloc, settings, files)?;
-    let left = served(alloc, words, &mut source, &mut out, files)?;
+    let mut files = site_of(alloc, settings, files)?;
+    let left = served(alloc, words, &mut source, &mut out, &mut files)?;
     shown(alloc, &left, out.written())
 }
 
@@ -183,8 +190,8 @@ pub fn left_after(alloc: Global, settings: &str, fields: &str) -> Result<String,
     let (trace, files) = cut(rest, '|');
     let mut source = source_of(alloc, settings, trace)?;
     let mut out = sink_of(alloc, settings)?;
-    let files = site_of(alloc, settings, files)?;
-    let left = served(alloc, words, &mut source, &mut out, files)?;
+    let mut files = site_of(alloc, settings, files)?;
+    let left = served(alloc, words, &mut source, &mut out, &mut files)?;
     let mut buffer = [0u8; 65536];
     let count = source.take(&mut buffer).unwrap_or(0);
     let mut text = String::new(alloc);

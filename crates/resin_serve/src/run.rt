@@ -20,10 +20,10 @@ use crate::give::{Given, give_three};
 use crate::logging::{Logging, logged};
 use crate::output::output_record;
 use crate::waiting::WaitingStreams;
-use resin_base::{Files, Sink, Tables};
+use resin_base::{Calls, Files, Sink, Tables};
 use resin_http::{Request, Step};
 use resin_journal::Journal;
-use resin_site::{End, Outcome, Run, Site, refusal, serve_one};
+use resin_site::{End, Outcome, Site, refusal, serve_one};
 use resin_trace::{TraceEvent, TraceFault, TraceReader};
 use std::alloc::Global;
 
@@ -34,18 +34,19 @@ pub struct Service {
     pub logging: Logging,
 }
 
-/// What a run has at hand beside what its requests stand on: its service, the number of the next answer, and the streams of the connections.
+/// What a run has at hand: its service, the keeper calls so far, the number of the next answer, and the streams of the connections.
 #[derive(Drop)]
-pub(crate) struct Serving {
+pub(crate) struct Run {
     pub(crate) alloc: Global,
     pub(crate) service: Service,
+    pub(crate) calls: Calls,
     pub(crate) number: u64,
     pub(crate) connections: WaitingStreams,
 }
 
 /// Gives an answer: what it puts into the log, then its mail records, then the record of its response.
 pub(crate) fn give_answer<L: Sink, M: Sink, O: Sink>(
-    serving: &mut Serving,
+    run: &mut Run,
     log: &mut L,
     mail: &mut M,
     out: &mut O,
@@ -54,50 +55,50 @@ pub(crate) fn give_answer<L: Sink, M: Sink, O: Sink>(
     mails: &[u8],
     response: &[u8],
 ) -> Given
-    ensures same { (serving.new.service ≡ serving.old.service) × (serving.new.connections ≡ serving.old.connections) }
+    ensures same { (run.new.service ≡ run.old.service) × (run.new.connections ≡ run.old.connections) × (run.new.calls ≡ run.old.calls) }
     ensures gave { (store store' : Option Store) (told told' : Answers) (made made' : ℕ)
         → GaveAll result (three lines.now mails.now (record_text conn response.now)) (world (L.written log.old) (M.written mail.old) (O.written out.old) store told made)
         (world (L.written log.new) (M.written mail.new) (O.written out.new) store' told' made') }
-    ensures number { OnWhole result (serving.new.number ≡ serving.old.number + 1) }
+    ensures number { OnWhole result (run.new.number ≡ run.old.number + 1) }
     ensures cause { CausedIn result
         (sinks (counts (L.faults log.old) (L.stalls log.old)) (counts (M.faults mail.old) (M.stalls mail.old)) (counts (O.faults out.old) (O.stalls out.old)))
         (sinks (counts (L.faults log.new) (L.stalls log.new)) (counts (M.faults mail.new) (M.stalls mail.new)) (counts (O.faults out.new) (O.stalls out.new))) }
 {
-    let Some(next) = serving.number.checked_add(1) else {
+    let Some(next) = run.number.checked_add(1) else {
         return Given::Memory;
     };
-    let Ok(record) = output_record(serving.alloc, conn, response) else {
+    let Ok(record) = output_record(run.alloc, conn, response) else {
         return Given::Memory;
     };
-    serving.number = next;
+    run.number = next;
     give_three(log, mail, out, lines, mails, record.as_slice())
 }
 
 // Gives an outcome: what it puts into the log, its mail records, and the record of its response.
 fn give_outcome<L: Sink, M: Sink, O: Sink>(
-    serving: &mut Serving,
+    run: &mut Run,
     log: &mut L,
     mail: &mut M,
     out: &mut O,
     conn: u16,
     outcome: &Outcome,
 ) -> Given
-    ensures same { (serving.new.service ≡ serving.old.service) × (serving.new.connections ≡ serving.old.connections) }
+    ensures same { (run.new.service ≡ run.old.service) × (run.new.connections ≡ run.old.connections) × (run.new.calls ≡ run.old.calls) }
     ensures gave { (store store' : Option Store) (told told' : Answers) (made made' : ℕ)
-        → GaveAll result (three (logged serving.old.service.logging serving.old.number outcome.now.journal) outcome.now.mail (record_text conn outcome.now.response)) (world (L.written log.old) (M.written mail.old) (O.written out.old) store told made)
+        → GaveAll result (three (logged run.old.service.logging run.old.number outcome.now.journal) outcome.now.mail (record_text conn outcome.now.response)) (world (L.written log.old) (M.written mail.old) (O.written out.old) store told made)
         (world (L.written log.new) (M.written mail.new) (O.written out.new) store' told' made') }
-    ensures told { ClassesAreNames outcome.now.journal → CanTell serving.old.service.logging serving.old.number outcome.now.journal }
-    ensures number { OnWhole result (serving.new.number ≡ serving.old.number + 1) }
+    ensures told { ClassesAreNames outcome.now.journal → CanTell run.old.service.logging run.old.number outcome.now.journal }
+    ensures number { OnWhole result (run.new.number ≡ run.old.number + 1) }
     ensures cause { CausedIn result
         (sinks (counts (L.faults log.old) (L.stalls log.old)) (counts (M.faults mail.old) (M.stalls mail.old)) (counts (O.faults out.old) (O.stalls out.old)))
         (sinks (counts (L.faults log.new) (L.stalls log.new)) (counts (M.faults mail.new) (M.stalls mail.new)) (counts (O.faults out.new) (O.stalls out.new))) }
 {
-    let logging = serving.service.logging;
-    let Ok(lines) = logged(serving.alloc, logging, serving.number, &outcome.journal) else {
+    let logging = run.service.logging;
+    let Ok(lines) = logged(run.alloc, logging, run.number, &outcome.journal) else {
         return Given::Memory;
     };
     give_answer(
-        serving,
+        run,
         log,
         mail,
         out,
@@ -110,34 +111,37 @@ fn give_outcome<L: Sink, M: Sink, O: Sink>(
 
 /// Serves a request, and gives its answer.
 pub(crate) fn serve_request<F: Files, T: Tables, L: Sink, M: Sink, O: Sink>(
-    serving: &mut Serving,
+    run: &mut Run,
     log: &mut L,
     mail: &mut M,
     out: &mut O,
-    run: &mut Run<F, T>,
+    files: &mut F,
+    tables: &mut T,
     conn: u16,
     request: &Request,
 ) -> Given
     requires { AreNumbered run.old.calls }
-    ensures same { (serving.new.service ≡ serving.old.service) × (serving.new.connections ≡ serving.old.connections) }
+    ensures same { (run.new.service ≡ run.old.service) × (run.new.connections ≡ run.old.connections) }
     ensures numbered { AreNumbered run.new.calls }
-    ensures kept { Kept (keepers run.old.calls.made run.old.calls.failed (F.answers run.old.files) (F.faults run.old.files) (T.answers run.old.tables) (T.faults run.old.tables))
-        (keepers run.new.calls.made run.new.calls.failed (F.answers run.new.files) (F.faults run.new.files) (T.answers run.new.tables) (T.faults run.new.tables)) }
+    ensures kept { Kept (keepers run.old.calls.made run.old.calls.failed (F.answers files.old) (F.faults files.old) (T.answers tables.old) (T.faults tables.old))
+        (keepers run.new.calls.made run.new.calls.failed (F.answers files.new) (F.faults files.new) (T.answers tables.new) (T.faults tables.new)) }
     ensures ran { (place : ℕ) (K : List ℕ) → Later run.new.calls.made run.new.calls.failed K
-        → Ran result (λ a. a.place ≡ place) (served serving.old.service) K serving.old.number (record { conn = conn; asked = asks request.now; place = place } ∷ [])
-        (world (L.written log.old) (M.written mail.old) (O.written out.old) (store_of (F.stored run.old.files) (T.stored run.old.tables)) (answers (F.answers run.old.files) (T.answers run.old.tables)) run.old.calls.made)
-        (world (L.written log.new) (M.written mail.new) (O.written out.new) (store_of (F.stored run.new.files) (T.stored run.new.tables)) (answers (F.answers run.new.files) (T.answers run.new.tables)) run.new.calls.made) }
-    ensures number { OnWhole result (serving.new.number ≡ serving.old.number + 1) }
+        → Ran result (λ a. a.place ≡ place) (served run.old.service) K run.old.number (record { conn = conn; asked = asks request.now; place = place } ∷ [])
+        (world (L.written log.old) (M.written mail.old) (O.written out.old) (store_of (F.stored files.old) (T.stored tables.old)) (answers (F.answers files.old) (T.answers tables.old)) run.old.calls.made)
+        (world (L.written log.new) (M.written mail.new) (O.written out.new) (store_of (F.stored files.new) (T.stored tables.new)) (answers (F.answers files.new) (T.answers tables.new)) run.new.calls.made) }
+    ensures number { OnWhole result (run.new.number ≡ run.old.number + 1) }
     ensures cause { CausedIn result
         (sinks (counts (L.faults log.old) (L.stalls log.old)) (counts (M.faults mail.old) (M.stalls mail.old)) (counts (O.faults out.old) (O.stalls out.old)))
         (sinks (counts (L.faults log.new) (L.stalls log.new)) (counts (M.faults mail.new) (M.stalls mail.new)) (counts (O.faults out.new) (O.stalls out.new))) }
 {
     let served = serve_one(
-        serving.alloc,
-        &mut serving.service.site,
-        run,
+        run.alloc,
+        &mut run.service.site,
         request,
-        serving.number,
+        run.number,
+        files,
+        tables,
+        &mut run.calls,
     );
     let Ok(outcome) = served else {
         return Given::Memory;
@@ -145,40 +149,40 @@ pub(crate) fn serve_request<F: Files, T: Tables, L: Sink, M: Sink, O: Sink>(
     match outcome.end {
         End::NotYet => Given::NotYet,
         End::Served | End::NotFound | End::Uncaught(_) | End::Fault(_, _) | End::Keeper => {
-            give_outcome(serving, log, mail, out, conn, &outcome)
+            give_outcome(run, log, mail, out, conn, &outcome)
         }
     }
 }
 
 /// Answers a refusal, which makes no keeper call.
 pub(crate) fn serve_refusal<L: Sink, M: Sink, O: Sink>(
-    serving: &mut Serving,
+    run: &mut Run,
     log: &mut L,
     mail: &mut M,
     out: &mut O,
     conn: u16,
     status: u16,
 ) -> Given
-    ensures same { (serving.new.service ≡ serving.old.service) × (serving.new.connections ≡ serving.old.connections) }
-    ensures ran { (place : ℕ) (K : List ℕ) (store : Option Store) (told : Answers) (made : ℕ) (service : Service) → service.logging ≡ serving.old.service.logging
-        → Ran result (λ a. a.place ≡ place) (served service) K serving.old.number (record { conn = conn; asked = refuses status; place = place } ∷ [])
-        (world (L.written log.old) (M.written mail.old) (O.written out.old) store told made)
-        (world (L.written log.new) (M.written mail.new) (O.written out.new) store told made) }
-    ensures number { OnWhole result (serving.new.number ≡ serving.old.number + 1) }
+    ensures same { (run.new.service ≡ run.old.service) × (run.new.connections ≡ run.old.connections) × (run.new.calls ≡ run.old.calls) }
+    ensures ran { (place : ℕ) (K : List ℕ) (store : Option Store) (told : Answers) (service : Service) → service.logging ≡ run.old.service.logging
+        → Ran result (λ a. a.place ≡ place) (served service) K run.old.number (record { conn = conn; asked = refuses status; place = place } ∷ [])
+        (world (L.written log.old) (M.written mail.old) (O.written out.old) store told run.old.calls.made)
+        (world (L.written log.new) (M.written mail.new) (O.written out.new) store told run.new.calls.made) }
+    ensures number { OnWhole result (run.new.number ≡ run.old.number + 1) }
     ensures cause { CausedIn result
         (sinks (counts (L.faults log.old) (L.stalls log.old)) (counts (M.faults mail.old) (M.stalls mail.old)) (counts (O.faults out.old) (O.stalls out.old)))
         (sinks (counts (L.faults log.new) (L.stalls log.new)) (counts (M.faults mail.new) (M.stalls mail.new)) (counts (O.faults out.new) (O.stalls out.new))) }
 {
-    let logging = serving.service.logging;
-    let journal = Journal::new(serving.alloc);
-    let Ok(lines) = logged(serving.alloc, logging, serving.number, &journal) else {
+    let logging = run.service.logging;
+    let journal = Journal::new(run.alloc);
+    let Ok(lines) = logged(run.alloc, logging, run.number, &journal) else {
         return Given::Memory;
     };
-    let Ok(response) = refusal(serving.alloc, status) else {
+    let Ok(response) = refusal(run.alloc, status) else {
         return Given::Memory;
     };
     give_answer(
-        serving,
+        run,
         log,
         mail,
         out,
@@ -191,42 +195,43 @@ pub(crate) fn serve_refusal<L: Sink, M: Sink, O: Sink>(
 
 /// Serves the answers that stand on a connection, on which something came.
 pub(crate) fn serve_connection<F: Files, T: Tables, L: Sink, M: Sink, O: Sink>(
-    serving: &mut Serving,
+    run: &mut Run,
     log: &mut L,
     mail: &mut M,
     out: &mut O,
-    run: &mut Run<F, T>,
+    files: &mut F,
+    tables: &mut T,
     conn: u16,
 ) -> Given
-    requires some { IsSome (at serving.old.connections conn) }
+    requires some { IsSome (at run.old.connections conn) }
     requires numbered { AreNumbered run.old.calls }
-    ensures service { serving.new.service ≡ serving.old.service }
-    ensures others { (c : ℕ) → c ≢ conn → at serving.new.connections c ≡ at serving.old.connections c }
+    ensures service { run.new.service ≡ run.old.service }
+    ensures others { (c : ℕ) → c ≢ conn → at run.new.connections c ≡ at run.old.connections c }
     ensures numbered { AreNumbered run.new.calls }
-    ensures kept { Kept (keepers run.old.calls.made run.old.calls.failed (F.answers run.old.files) (F.faults run.old.files) (T.answers run.old.tables) (T.faults run.old.tables))
-        (keepers run.new.calls.made run.new.calls.failed (F.answers run.new.files) (F.faults run.new.files) (T.answers run.new.tables) (T.faults run.new.tables)) }
+    ensures kept { Kept (keepers run.old.calls.made run.old.calls.failed (F.answers files.old) (F.faults files.old) (T.answers tables.old) (T.faults tables.old))
+        (keepers run.new.calls.made run.new.calls.failed (F.answers files.new) (F.faults files.new) (T.answers tables.new) (T.faults tables.new)) }
     ensures ran { (place : ℕ) (K : List ℕ) → Later run.new.calls.made run.new.calls.failed K
-        → Ran result (λ a. a.place ≡ place) (served serving.old.service) K serving.old.number (asked conn place (still (at serving.old.connections conn) []))
-        (world (L.written log.old) (M.written mail.old) (O.written out.old) (store_of (F.stored run.old.files) (T.stored run.old.tables)) (answers (F.answers run.old.files) (T.answers run.old.tables)) run.old.calls.made)
-        (world (L.written log.new) (M.written mail.new) (O.written out.new) (store_of (F.stored run.new.files) (T.stored run.new.tables)) (answers (F.answers run.new.files) (T.answers run.new.tables)) run.new.calls.made) }
+        → Ran result (λ a. a.place ≡ place) (served run.old.service) K run.old.number (asked conn place (still (at run.old.connections conn) []))
+        (world (L.written log.old) (M.written mail.old) (O.written out.old) (store_of (F.stored files.old) (T.stored tables.old)) (answers (F.answers files.old) (T.answers tables.old)) run.old.calls.made)
+        (world (L.written log.new) (M.written mail.new) (O.written out.new) (store_of (F.stored files.new) (T.stored tables.new)) (answers (F.answers files.new) (T.answers tables.new)) run.new.calls.made) }
     ensures cause { CausedIn result
         (sinks (counts (L.faults log.old) (L.stalls log.old)) (counts (M.faults mail.old) (M.stalls mail.old)) (counts (O.faults out.old) (O.stalls out.old)))
         (sinks (counts (L.faults log.new) (L.stalls log.new)) (counts (M.faults mail.new) (M.stalls mail.new)) (counts (O.faults out.new) (O.stalls out.new))) }
-    ensures line { OnWhole result (RanLine (at serving.old.connections conn) (at serving.new.connections conn) serving.old.number serving.new.number) }
+    ensures line { OnWhole result (RanLine (at run.old.connections conn) (at run.new.connections conn) run.old.number run.new.number) }
 {
     'answers: loop {
-        match serving.connections.next_request(serving.alloc, conn) {
+        match run.connections.next_request(run.alloc, conn) {
             Ok(Step::Need) => return Given::Whole,
             Ok(Step::Got { request, used }) => {
-                serving.connections.used(conn, used as usize);
-                match serve_request(serving, log, mail, out, run, conn, &request) {
+                run.connections.used(conn, used as usize);
+                match serve_request(run, log, mail, out, files, tables, conn, &request) {
                     Given::Whole => {}
                     stop => return stop,
                 }
             }
             Ok(Step::Refuse { status }) => {
-                serving.connections.refuse(conn);
-                return serve_refusal(serving, log, mail, out, conn, status);
+                run.connections.refuse(conn);
+                return serve_refusal(run, log, mail, out, conn, status);
             }
             Err(_) => return Given::Memory,
         }
@@ -235,35 +240,36 @@ pub(crate) fn serve_connection<F: Files, T: Tables, L: Sink, M: Sink, O: Sink>(
 
 /// Serves the answers that a record completes.
 pub(crate) fn serve_event<F: Files, T: Tables, L: Sink, M: Sink, O: Sink>(
-    serving: &mut Serving,
+    run: &mut Run,
     log: &mut L,
     mail: &mut M,
     out: &mut O,
-    run: &mut Run<F, T>,
+    files: &mut F,
+    tables: &mut T,
     event: &TraceEvent,
 ) -> Given
     requires { AreNumbered run.old.calls }
-    ensures service { serving.new.service ≡ serving.old.service }
+    ensures service { run.new.service ≡ run.old.service }
     ensures numbered { AreNumbered run.new.calls }
-    ensures kept { Kept (keepers run.old.calls.made run.old.calls.failed (F.answers run.old.files) (F.faults run.old.files) (T.answers run.old.tables) (T.faults run.old.tables))
-        (keepers run.new.calls.made run.new.calls.failed (F.answers run.new.files) (F.faults run.new.files) (T.answers run.new.tables) (T.faults run.new.tables)) }
+    ensures kept { Kept (keepers run.old.calls.made run.old.calls.failed (F.answers files.old) (F.faults files.old) (T.answers tables.old) (T.faults tables.old))
+        (keepers run.new.calls.made run.new.calls.failed (F.answers files.new) (F.faults files.new) (T.answers tables.new) (T.faults tables.new)) }
     ensures cause { CausedIn result
         (sinks (counts (L.faults log.old) (L.stalls log.old)) (counts (M.faults mail.old) (M.stalls mail.old)) (counts (O.faults out.old) (O.stalls out.old)))
         (sinks (counts (L.faults log.new) (L.stalls log.new)) (counts (M.faults mail.new) (M.stalls mail.new)) (counts (O.faults out.new) (O.stalls out.new))) }
-    ensures ran { (place : ℕ) (seen : List TraceEvent) → Hold serving.old.connections seen
-        → RanEvent result (served serving.old.service) seen (event.now, place) serving.old.number serving.new.number run.new.calls.made run.new.calls.failed serving.new.connections
-        (world (L.written log.old) (M.written mail.old) (O.written out.old) (store_of (F.stored run.old.files) (T.stored run.old.tables)) (answers (F.answers run.old.files) (T.answers run.old.tables)) run.old.calls.made)
-        (world (L.written log.new) (M.written mail.new) (O.written out.new) (store_of (F.stored run.new.files) (T.stored run.new.tables)) (answers (F.answers run.new.files) (T.answers run.new.tables)) run.new.calls.made) }
+    ensures ran { (place : ℕ) (seen : List TraceEvent) → Hold run.old.connections seen
+        → RanEvent result (served run.old.service) seen (event.now, place) run.old.number run.new.number run.new.calls.made run.new.calls.failed run.new.connections
+        (world (L.written log.old) (M.written mail.old) (O.written out.old) (store_of (F.stored files.old) (T.stored tables.old)) (answers (F.answers files.old) (T.answers tables.old)) run.old.calls.made)
+        (world (L.written log.new) (M.written mail.new) (O.written out.new) (store_of (F.stored files.new) (T.stored tables.new)) (answers (F.answers files.new) (T.answers tables.new)) run.new.calls.made) }
 {
     match event {
         TraceEvent::Piece { conn, bytes } => {
-            match serving.connections.add(*conn, bytes.as_slice()) {
-                Ok(()) => serve_connection(serving, log, mail, out, run, *conn),
+            match run.connections.add(*conn, bytes.as_slice()) {
+                Ok(()) => serve_connection(run, log, mail, out, files, tables, *conn),
                 Err(_) => Given::Memory,
             }
         }
         TraceEvent::End { conn } => {
-            serving.connections.end(*conn);
+            run.connections.end(*conn);
             Given::Whole
         }
     }
@@ -288,30 +294,31 @@ pub enum Ready {
 
 /// Serves the records that stand whole.
 pub(crate) fn serve_ready<F: Files, T: Tables, L: Sink, M: Sink, O: Sink>(
-    serving: &mut Serving,
+    run: &mut Run,
     log: &mut L,
     mail: &mut M,
     out: &mut O,
-    run: &mut Run<F, T>,
+    files: &mut F,
+    tables: &mut T,
     reader: &mut TraceReader,
 ) -> Ready
     requires { AreNumbered run.old.calls }
-    ensures service { serving.new.service ≡ serving.old.service }
+    ensures service { run.new.service ≡ run.old.service }
     ensures numbered { AreNumbered run.new.calls }
-    ensures kept { Kept (keepers run.old.calls.made run.old.calls.failed (F.answers run.old.files) (F.faults run.old.files) (T.answers run.old.tables) (T.faults run.old.tables))
-        (keepers run.new.calls.made run.new.calls.failed (F.answers run.new.files) (F.faults run.new.files) (T.answers run.new.tables) (T.faults run.new.tables)) }
+    ensures kept { Kept (keepers run.old.calls.made run.old.calls.failed (F.answers files.old) (F.faults files.old) (T.answers tables.old) (T.faults tables.old))
+        (keepers run.new.calls.made run.new.calls.failed (F.answers files.new) (F.faults files.new) (T.answers tables.new) (T.faults tables.new)) }
     ensures cause { CausedIn (given_of result)
         (sinks (counts (L.faults log.old) (L.stalls log.old)) (counts (M.faults mail.old) (M.stalls mail.old)) (counts (O.faults out.old) (O.stalls out.old)))
         (sinks (counts (L.faults log.new) (L.stalls log.new)) (counts (M.faults mail.new) (M.stalls mail.new)) (counts (O.faults out.new) (O.stalls out.new))) }
-    ensures went { (seen : List TraceEvent) (b : ℕ) → Hold serving.old.connections seen → Beyond b reader.old
-        → Went result (served serving.old.service) b seen reader.old reader.new serving.old.number serving.new.number run.new.calls.made run.new.calls.failed serving.new.connections
-        (world (L.written log.old) (M.written mail.old) (O.written out.old) (store_of (F.stored run.old.files) (T.stored run.old.tables)) (answers (F.answers run.old.files) (T.answers run.old.tables)) run.old.calls.made)
-        (world (L.written log.new) (M.written mail.new) (O.written out.new) (store_of (F.stored run.new.files) (T.stored run.new.tables)) (answers (F.answers run.new.files) (T.answers run.new.tables)) run.new.calls.made) }
+    ensures went { (seen : List TraceEvent) (b : ℕ) → Hold run.old.connections seen → Beyond b reader.old
+        → Went result (served run.old.service) b seen reader.old reader.new run.old.number run.new.number run.new.calls.made run.new.calls.failed run.new.connections
+        (world (L.written log.old) (M.written mail.old) (O.written out.old) (store_of (F.stored files.old) (T.stored tables.old)) (answers (F.answers files.old) (T.answers tables.old)) run.old.calls.made)
+        (world (L.written log.new) (M.written mail.new) (O.written out.new) (store_of (F.stored files.new) (T.stored tables.new)) (answers (F.answers files.new) (T.answers tables.new)) run.new.calls.made) }
 {
     'records: loop {
         match reader.next() {
             Ok(Some(event)) => {
-                match serve_event(serving, log, mail, out, run, &event) {
+                match serve_event(run, log, mail, out, files, tables, &event) {
                     Given::Whole => {}
                     Given::Fault => return Ready::Fault,
                     Given::Memory => return Ready::Memory,

@@ -4,15 +4,13 @@ ghost use Rattle.resin_serve.specs.Codes.{code_of};
 
 use resin_base::FailList;
 
-/// What `serve` leaves: how it ended, how many keeper calls it made, the numbers of those that failed, and the keepers. Keeper calls are those on the
+/// What `serve` leaves: how it ended, how many keeper calls it made, and the numbers of those that failed. Keeper calls are those on the
 /// files and on the tables together, numbered from 1; one that found no memory isn't counted.
 #[derive(Drop)]
-pub struct Ended<F, T> {
+pub struct Ended {
     pub status: Status,
     pub made: u64,
     pub failed: FailList,
-    pub files: F,
-    pub tables: T,
 }
 
 /// How a run ends.

@@ -19,12 +19,12 @@ ghost use Rattle.resin_serve.specs.declared.status.Status.TheVariants.{Usage, Au
 
 use crate::auditing::audit_source;
 use crate::logging::Logging;
-use crate::run::{Ready, Service, Serving, serve_ready};
+use crate::run::{Ready, Run, Service, serve_ready};
 use crate::status::{Ended, Status};
 use crate::waiting::WaitingStreams;
 use crate::words::{Task, task_of};
 use resin_base::{Calls, FailList, Files, Sink, Source, Tables};
-use resin_site::{Machine, Run, Site};
+use resin_site::Site;
 use resin_trace::{TraceFault, TraceReader};
 use std::alloc::{AllocError, Global};
 
@@ -42,37 +42,37 @@ pub fn serve<S: Source, O: Sink, L: Sink, M: Sink, F: Files, T: Tables>(
     out: &mut O,
     log: &mut L,
     mail: &mut M,
-    files: F,
-    tables: T,
-) -> Ended<F, T>
+    files: &mut F,
+    tables: &mut T,
+) -> Ended
     // Usage comes exactly where the words are none of the forms, and then nothing is read or written.
     ensures usage { (result.status ≡ Usage) ↔ (task_of (map string_bytes words.now) ≡ None) }
     ensures untouched { task_of (map string_bytes words.now) ≡ None
-        → (trace.new ≡ trace.old) × (out.new ≡ out.old) × (log.new ≡ log.old) × (mail.new ≡ mail.old) × (result.files ≡ files) × (result.tables ≡ tables)
+        → (trace.new ≡ trace.old) × (out.new ≡ out.old) × (log.new ≡ log.old) × (mail.new ≡ mail.old) × (files.new ≡ files.old) × (tables.new ≡ tables.old)
         × (result.made ≡ 0) × (result.failed ≡ []) }
 
     // What the sinks gained and the keepers hold is the meaning's, as far as the status says, and each answer that gave a byte obeys the access law.
     // The keeper calls that were made are the meaning's, and where a keeper tells its answers, those of them that failed there are the listed ones.
     ensures run { (logging : Logging) (fuel : ℕ) (all : List ℕ) → task_of (map string_bytes words.now) ≡ Some (Task.Run logging fuel) → S.left trace.old ≡ Some all
         → RunsFrom result.status (meaning logging fuel) result.failed all (S.left trace.new)
-        (world (L.written log.old) (M.written mail.old) (O.written out.old) (store_of (F.stored files) (T.stored tables)) (answers (F.answers files) (T.answers tables)) 0)
-        (world (L.written log.new) (M.written mail.new) (O.written out.new) (store_of (F.stored result.files) (T.stored result.tables)) (answers (F.answers result.files) (T.answers result.tables)) result.made) }
+        (world (L.written log.old) (M.written mail.old) (O.written out.old) (store_of (F.stored files.old) (T.stored tables.old)) (answers (F.answers files.old) (T.answers tables.old)) 0)
+        (world (L.written log.new) (M.written mail.new) (O.written out.new) (store_of (F.stored files.new) (T.stored tables.new)) (answers (F.answers files.new) (T.answers tables.new)) result.made) }
 
     // An audit gives the line of the verdict on the whole text, and has its status; it makes no keeper call, and leaves all else alone. AuditRefused
     // comes only there, and a bad trace never.
     ensures audit { (all : List ℕ) → task_of (map string_bytes words.now) ≡ Some Task.Audit → S.left trace.old ≡ Some all
         → Audits result.status all (O.written out.old) (O.written out.new) }
     ensures audits { task_of (map string_bytes words.now) ≡ Some Task.Audit
-        → EndsAudit result.status × OnSilent result.status (out.new ≡ out.old) × (log.new ≡ log.old) × (mail.new ≡ mail.old) × (result.files ≡ files) × (result.tables ≡ tables)
+        → EndsAudit result.status × OnSilent result.status (out.new ≡ out.old) × (log.new ≡ log.old) × (mail.new ≡ mail.old) × (files.new ≡ files.old) × (tables.new ≡ tables.old)
         × (result.made ≡ 0) × (result.failed ≡ []) }
     ensures refused { result.status ≡ AuditRefused → task_of (map string_bytes words.now) ≡ Some Task.Audit }
 
     // The failed calls are those that the keepers tell of, in order.
-    ensures kept { Kept (keepers 0 [] (F.answers files) (F.faults files) (T.answers tables) (T.faults tables))
-        (keepers result.made result.failed (F.answers result.files) (F.faults result.files) (T.answers result.tables) (T.faults result.tables)) }
+    ensures kept { Kept (keepers 0 [] (F.answers files.old) (F.faults files.old) (T.answers tables.old) (T.faults tables.old))
+        (keepers result.made result.failed (F.answers files.new) (F.faults files.new) (T.answers tables.new) (T.faults tables.new)) }
     ensures numbered { RiseWithin 0 result.made result.failed }
-    ensures as_many { F.faults result.files < last_count → T.faults result.tables < last_count
-        → length result.failed + (F.faults files + T.faults tables) ≤ F.faults result.files + T.faults result.tables }
+    ensures as_many { F.faults files.new < last_count → T.faults tables.new < last_count
+        → length result.failed + (F.faults files.old + T.faults tables.old) ≤ F.faults files.new + T.faults tables.new }
 
     // Each fault has its cause.
     ensures cause { CausedIn (given_of_status result.status)
@@ -85,8 +85,8 @@ pub fn serve<S: Source, O: Sink, L: Sink, M: Sink, F: Files, T: Tables>(
         → Calm (S.faults trace.old) (S.faults trace.new)
         (sinks (counts (L.faults log.old) (L.stalls log.old)) (counts (M.faults mail.old) (M.stalls mail.old)) (counts (O.faults out.old) (O.stalls out.old)))
         (sinks (counts (L.faults log.new) (L.stalls log.new)) (counts (M.faults mail.new) (M.stalls mail.new)) (counts (O.faults out.new) (O.stalls out.new)))
-        (keepers 0 [] (F.answers files) (F.faults files) (T.answers tables) (T.faults tables))
-        (keepers result.made result.failed (F.answers result.files) (F.faults result.files) (T.answers result.tables) (T.faults result.tables))
+        (keepers 0 [] (F.answers files.old) (F.faults files.old) (T.answers tables.old) (T.faults tables.old))
+        (keepers result.made result.failed (F.answers files.new) (F.faults files.new) (T.answers tables.new) (T.faults tables.new))
         → Completes result.status × (result.failed ≡ []) }
 
     // A text within the limit is audited over a calm outside, unless memory is wanting.
@@ -94,13 +94,13 @@ pub fn serve<S: Source, O: Sink, L: Sink, M: Sink, F: Files, T: Tables>(
         → Calm (S.faults trace.old) (S.faults trace.new)
         (sinks (counts (L.faults log.old) (L.stalls log.old)) (counts (M.faults mail.old) (M.stalls mail.old)) (counts (O.faults out.old) (O.stalls out.old)))
         (sinks (counts (L.faults log.new) (L.stalls log.new)) (counts (M.faults mail.new) (M.stalls mail.new)) (counts (O.faults out.new) (O.stalls out.new)))
-        (keepers 0 [] (F.answers files) (F.faults files) (T.answers tables) (T.faults tables))
-        (keepers result.made result.failed (F.answers result.files) (F.faults result.files) (T.answers result.tables) (T.faults result.tables))
+        (keepers 0 [] (F.answers files.old) (F.faults files.old) (T.answers tables.old) (T.faults tables.old))
+        (keepers result.made result.failed (F.answers files.new) (F.faults files.new) (T.answers tables.new) (T.faults tables.new))
         → CompletesAudit result.status }
 {
     match task_of(words) {
-        None => ended(alloc, Status::Usage, files, tables),
-        Some(Task::Audit) => ended(alloc, audit_source(alloc, trace, out), files, tables),
+        None => ended(alloc, Status::Usage),
+        Some(Task::Audit) => ended(alloc, audit_source(alloc, trace, out)),
         Some(Task::Run { logging, fuel }) => serve_site(
             alloc, logging, fuel, trace, out, log, mail, files, tables,
         ),
@@ -108,15 +108,13 @@ pub fn serve<S: Source, O: Sink, L: Sink, M: Sink, F: Files, T: Tables>(
 }
 
 // An end without keeper calls.
-fn ended<F, T>(alloc: Global, status: Status, files: F, tables: T) -> Ended<F, T>
-    ensures { (result.status ≡ status) × (result.made ≡ 0) × (result.failed ≡ []) × (result.files ≡ files) × (result.tables ≡ tables) }
+fn ended(alloc: Global, status: Status) -> Ended
+    ensures { (result.status ≡ status) × (result.made ≡ 0) × (result.failed ≡ []) }
 {
     Ended {
         status,
         made: 0,
         failed: FailList::new(alloc),
-        files,
-        tables,
     }
 }
 
@@ -129,16 +127,16 @@ fn serve_site<S: Source, O: Sink, L: Sink, M: Sink, F: Files, T: Tables>(
     out: &mut O,
     log: &mut L,
     mail: &mut M,
-    files: F,
-    tables: T,
-) -> Ended<F, T>
+    files: &mut F,
+    tables: &mut T,
+) -> Ended
     ensures serves { EndsRun result.status }
     ensures run { (all : List ℕ) → S.left trace.old ≡ Some all
         → RunsFrom result.status (meaning logging fuel) result.failed all (S.left trace.new)
-        (world (L.written log.old) (M.written mail.old) (O.written out.old) (store_of (F.stored files) (T.stored tables)) (answers (F.answers files) (T.answers tables)) 0)
-        (world (L.written log.new) (M.written mail.new) (O.written out.new) (store_of (F.stored result.files) (T.stored result.tables)) (answers (F.answers result.files) (T.answers result.tables)) result.made) }
-    ensures kept { Kept (keepers 0 [] (F.answers files) (F.faults files) (T.answers tables) (T.faults tables))
-        (keepers result.made result.failed (F.answers result.files) (F.faults result.files) (T.answers result.tables) (T.faults result.tables)) }
+        (world (L.written log.old) (M.written mail.old) (O.written out.old) (store_of (F.stored files.old) (T.stored tables.old)) (answers (F.answers files.old) (T.answers tables.old)) 0)
+        (world (L.written log.new) (M.written mail.new) (O.written out.new) (store_of (F.stored files.new) (T.stored tables.new)) (answers (F.answers files.new) (T.answers tables.new)) result.made) }
+    ensures kept { Kept (keepers 0 [] (F.answers files.old) (F.faults files.old) (T.answers tables.old) (T.faults tables.old))
+        (keepers result.made result.failed (F.answers files.new) (F.faults files.new) (T.answers tables.new) (T.faults tables.new)) }
     ensures numbered { RiseWithin 0 result.made result.failed }
     ensures cause { CausedIn (given_of_status result.status)
         (sinks (counts (L.faults log.old) (L.stalls log.old)) (counts (M.faults mail.old) (M.stalls mail.old)) (counts (O.faults out.old) (O.stalls out.old)))
@@ -148,8 +146,8 @@ fn serve_site<S: Source, O: Sink, L: Sink, M: Sink, F: Files, T: Tables>(
         → Calm (S.faults trace.old) (S.faults trace.new)
         (sinks (counts (L.faults log.old) (L.stalls log.old)) (counts (M.faults mail.old) (M.stalls mail.old)) (counts (O.faults out.old) (O.stalls out.old)))
         (sinks (counts (L.faults log.new) (L.stalls log.new)) (counts (M.faults mail.new) (M.stalls mail.new)) (counts (O.faults out.new) (O.stalls out.new)))
-        (keepers 0 [] (F.answers files) (F.faults files) (T.answers tables) (T.faults tables))
-        (keepers result.made result.failed (F.answers result.files) (F.faults result.files) (T.answers result.tables) (T.faults result.tables))
+        (keepers 0 [] (F.answers files.old) (F.faults files.old) (T.answers tables.old) (T.faults tables.old))
+        (keepers result.made result.failed (F.answers files.new) (F.faults files.new) (T.answers tables.new) (T.faults tables.new))
         → Completes result.status × (result.failed ≡ []) }
 {
     let calls = Calls {
@@ -161,75 +159,52 @@ fn serve_site<S: Source, O: Sink, L: Sink, M: Sink, F: Files, T: Tables>(
             status: Status::Memory,
             made: calls.made,
             failed: calls.failed,
-            files,
-            tables,
-        };
-    };
-    let Ok(machine) = Machine::new(alloc, fuel, 0) else {
-        return Ended {
-            status: Status::Memory,
-            made: calls.made,
-            failed: calls.failed,
-            files,
-            tables,
         };
     };
     let mut run = Run {
-        machine,
-        files,
-        tables,
-        calls,
-    };
-    let mut serving = Serving {
         alloc,
         service: Service { site, logging },
+        calls,
         number: 1,
         connections: WaitingStreams::new(alloc),
     };
-    let status = serve_trace(&mut serving, trace, log, mail, out, &mut run);
-    let Run {
-        machine: _,
-        files,
-        tables,
-        calls,
-    } = run;
+    let status = serve_trace(&mut run, trace, log, mail, out, files, tables);
     Ended {
         status,
-        made: calls.made,
-        failed: calls.failed,
-        files,
-        tables,
+        made: run.calls.made,
+        failed: run.calls.failed,
     }
 }
 
 // Serves a whole trace.
 fn serve_trace<S: Source, F: Files, T: Tables, L: Sink, M: Sink, O: Sink>(
-    serving: &mut Serving,
+    run: &mut Run,
     trace: &mut S,
     log: &mut L,
     mail: &mut M,
     out: &mut O,
-    run: &mut Run<F, T>,
+    files: &mut F,
+    tables: &mut T,
 ) -> Status
-    requires number { serving.old.number ≡ 1 }
+    requires number { run.old.number ≡ 1 }
     requires numbered { AreNumbered run.old.calls }
-    requires new { (c : ℕ) → at serving.old.connections c ≡ None }
+    requires new { (c : ℕ) → at run.old.connections c ≡ None }
     ensures serves { EndsRun result }
-    ensures kept { Kept (keepers run.old.calls.made run.old.calls.failed (F.answers run.old.files) (F.faults run.old.files) (T.answers run.old.tables) (T.faults run.old.tables))
-        (keepers run.new.calls.made run.new.calls.failed (F.answers run.new.files) (F.faults run.new.files) (T.answers run.new.tables) (T.faults run.new.tables)) }
+    ensures kept { Kept (keepers run.old.calls.made run.old.calls.failed (F.answers files.old) (F.faults files.old) (T.answers tables.old) (T.faults tables.old))
+        (keepers run.new.calls.made run.new.calls.failed (F.answers files.new) (F.faults files.new) (T.answers tables.new) (T.faults tables.new)) }
     ensures cause { CausedIn (given_of_status result)
         (sinks (counts (L.faults log.old) (L.stalls log.old)) (counts (M.faults mail.old) (M.stalls mail.old)) (counts (O.faults out.old) (O.stalls out.old)))
         (sinks (counts (L.faults log.new) (L.stalls log.new)) (counts (M.faults mail.new) (M.stalls mail.new)) (counts (O.faults out.new) (O.stalls out.new))) }
     ensures read { ReadCause result (S.faults trace.old) (S.faults trace.new) }
     ensures ran { (K all : List ℕ) → Later run.new.calls.made run.new.calls.failed K → S.left trace.old ≡ Some all
-        → RunsFrom result (served serving.old.service) K all (S.left trace.new)
-        (world (L.written log.old) (M.written mail.old) (O.written out.old) (store_of (F.stored run.old.files) (T.stored run.old.tables)) (answers (F.answers run.old.files) (T.answers run.old.tables)) run.old.calls.made)
-        (world (L.written log.new) (M.written mail.new) (O.written out.new) (store_of (F.stored run.new.files) (T.stored run.new.tables)) (answers (F.answers run.new.files) (T.answers run.new.tables)) run.new.calls.made) }
+        → RunsFrom result (served run.old.service) K all (S.left trace.new)
+        (world (L.written log.old) (M.written mail.old) (O.written out.old) (store_of (F.stored files.old) (T.stored tables.old)) (answers (F.answers files.old) (T.answers tables.old)) run.old.calls.made)
+        (world (L.written log.new) (M.written mail.new) (O.written out.new) (store_of (F.stored files.new) (T.stored tables.new)) (answers (F.answers files.new) (T.answers tables.new)) run.new.calls.made) }
 {
-    let mut reader = TraceReader::new(serving.alloc);
+    let mut reader = TraceReader::new(run.alloc);
     let mut buffer = [0u8; 65536];
     'reads: loop {
-        match serve_ready(serving, log, mail, out, run, &mut reader) {
+        match serve_ready(run, log, mail, out, files, tables, &mut reader) {
             Ready::Wait => {}
             Ready::Bad { offset } => return Status::BadTrace { offset },
             Ready::TooLong => return Status::TraceTooLong,

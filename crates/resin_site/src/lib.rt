@@ -6,7 +6,5 @@ mod serving;
 mod site;
 
 pub use outcome::{End, Outcome, log_text, refusal};
-pub use resin_invoke::run::Run;
-pub use resin_machine::Machine;
 pub use serving::serve_one;
 pub use site::Site;

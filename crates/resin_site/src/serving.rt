@@ -9,13 +9,11 @@ ghost use Rattle.resin_site.specs.Serving.{Served, Ends};
 
 use crate::outcome::{Outcome, outcome_for};
 use crate::site::Site;
-use resin_base::{Files, Tables};
+use resin_base::{Calls, Files, Tables};
 use resin_http::{Method, Request, inputs};
-use resin_invoke::run::Run;
 use resin_machine::Machine;
 use resin_request::{path_of, run_request};
 use std::alloc::{AllocError, Global};
-use std::mem;
 
 /// Serves one request; `number` is its number in its mail and its log. The runtime reads the file that the target asks for, runs `boot.php`, sets
 /// the inputs, and runs the file where it is a script, or sends it.
@@ -24,47 +22,46 @@ use std::mem;
 /// names no file; `Uncaught` and `Fault` with 500; `Keeper` with 503 exactly where the last keeper call failed; and `NotYet` where the request
 /// meets what isn't built. What was sent before an end stays, and the end's text comes behind it. A HEAD request's response leaves the body out.
 ///
-/// The request has a machine of its own, which stands in the run while its scripts run; then the one that was there is put back. After want of memory the
-/// keepers and the calls of the run stand as at one of the moments of the request.
+/// After want of memory the keepers and `calls` stand as at one of the moments of the request.
 pub fn serve_one<F: Files, T: Tables>(
     alloc: Global,
     site: &mut Site,
-    run: &mut Run<F, T>,
     r: &Request,
     number: u64,
+    files: &mut F,
+    tables: &mut T,
+    calls: &mut Calls,
 ) -> Result<Outcome, AllocError>
-    requires { AreNumbered run.old.calls }
+    requires { AreNumbered calls.old }
     ensures site { site.new ≡ site.old }
-    ensures numbered { AreNumbered run.new.calls }
-    ensures later { Passes run.old.calls.made run.old.calls.failed run.new.calls.made run.new.calls.failed }
+    ensures numbered { AreNumbered calls.new }
+    ensures later { Passes calls.old.made calls.old.failed calls.new.made calls.new.failed }
 
     // Whatever numbers follow those of the calls that failed: where the keepers tell what they hold, the request was served as it means.
-    ensures served { (K : List ℕ) → Later run.new.calls.made run.new.calls.failed K
-        → Served site.old K (store_of (F.stored run.old.files) (T.stored run.old.tables)) run.old.calls.made number r.now
-        (λ made. Tells made (answers (F.answers run.old.files) (T.answers run.old.tables)) (answers (F.answers run.new.files) (T.answers run.new.tables)) run.old.calls.made run.new.calls.made run.new.calls.failed)
-        result (store_of (F.stored run.new.files) (T.stored run.new.tables)) run.new.calls.made }
+    ensures served { (K : List ℕ) → Later calls.new.made calls.new.failed K
+        → Served site.old K (store_of (F.stored files.old) (T.stored tables.old)) calls.old.made number r.now
+        (λ made. Tells made (answers (F.answers files.old) (T.answers tables.old)) (answers (F.answers files.new) (T.answers tables.new)) calls.old.made calls.new.made calls.new.failed)
+        result (store_of (F.stored files.new) (T.stored tables.new)) calls.new.made }
 
     // The access law.
     ensures lawful { IfOk result (λ o. IsLawful number o) }
 
     // A keeper's failure ends the request, and is blamed on a keeper whose count of faults rose.
-    ensures ends { Ends result run.new.calls.made run.old.calls.failed run.new.calls.failed }
-    ensures blames { Blames run.old.calls.made run.old.calls.failed (faults (F.faults run.old.files) (T.faults run.old.tables))
-        run.new.calls.made run.new.calls.failed (faults (F.faults run.new.files) (T.faults run.new.tables)) }
+    ensures ends { Ends result calls.new.made calls.old.failed calls.new.failed }
+    ensures blames { Blames calls.old.made calls.old.failed (faults (F.faults files.old) (T.faults tables.old))
+        calls.new.made calls.new.failed (faults (F.faults files.new) (T.faults tables.new)) }
 
     // No count of faults falls.
-    ensures counted { (F.faults run.old.files ≤ F.faults run.new.files) × (T.faults run.old.tables ≤ T.faults run.new.tables) }
+    ensures counted { (F.faults files.old ≤ F.faults files.new) × (T.faults tables.old ≤ T.faults tables.new) }
 
     // The keepers' own answers are those of the request's calls.
-    ensures told { (made : List KeeperCall) × Tells made (answers (F.answers run.old.files) (T.answers run.old.tables)) (answers (F.answers run.new.files) (T.answers run.new.tables)) run.old.calls.made run.new.calls.made run.new.calls.failed }
+    ensures told { (made : List KeeperCall) × Tells made (answers (F.answers files.old) (T.answers tables.old)) (answers (F.answers files.new) (T.answers tables.new)) calls.old.made calls.new.made calls.new.failed }
 {
     let path = path_of(alloc, r.target.as_slice())?;
     let inputs = inputs(alloc, r)?;
-    let machine = Machine::new(alloc, site.fuel(), number)?;
-    let idle = mem::replace(&mut run.machine, machine);
-    let finish = run_request(alloc, run, path.as_slice(), inputs);
-    let machine = mem::replace(&mut run.machine, idle);
-    outcome_for(alloc, path.as_slice(), is_head(r.method), finish, machine)
+    let mut m = Machine::new(alloc, site.fuel(), number)?;
+    let finish = run_request(alloc, path.as_slice(), inputs, &mut m, files, tables, calls);
+    outcome_for(alloc, path.as_slice(), is_head(r.method), finish, m)
 }
 
 // Whether only the head of the response is wanted.

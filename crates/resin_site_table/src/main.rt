@@ -12,7 +12,7 @@
 use resin_base::{Calls, FailList};
 use resin_http::{Step, next_request};
 use resin_memory::{CalmTables, FakeFiles};
-use resin_site::{End, Machine, Outcome, Run, Site, log_text, refusal, serve_one};
+use resin_site::{End, Outcome, Site, log_text, refusal, serve_one};
 use std::alloc::{AllocError, Global};
 use std::io;
 
@@ -120,27 +120,31 @@ fn request_text(alloc: Global, field: &str) -> Result<String, AllocError> {
 fn answer(
     alloc: Global,
     site: &mut Site,
-    run: &mut Run<FakeFiles, CalmTables>,
     number: u64,
     field: &str,
+    files: &mut FakeFiles,
 ) -> Result<String, AllocError> {
     let text = request_text(alloc, field)?;
-    run.calls = uncalled(alloc);
+    let mut tables = CalmTables::new(alloc);
+    let mut calls = Calls {
+        made: 0,
+        failed: FailList::new(alloc),
+    };
     match next_request(alloc, text.as_bytes())? {
         Step::Got { request, .. } => {
-            let outcome = serve_one(alloc, site, run, &request, number)?;
-            shown(alloc, number, &outcome, &run.calls)
+            let outcome = serve_one(
+                alloc,
+                site,
+                &request,
+                number,
+                files,
+                &mut tables,
+                &mut calls,
+            )?;
+            shown(alloc, number, &outcome, &calls)
         }
         Step::Refuse { status } => shown_refusal(alloc, status),
         Step::Need => String::from_str(alloc, "no whole request"),
-    }
-}
-
-/// No call yet.
-fn uncalled(alloc: Global) -> Calls {
-    Calls {
-        made: 0,
-        failed: FailList::new(alloc),
     }
 }
 
@@ -179,25 +183,19 @@ fn numbers(alloc: Global, words: &str) -> Result<FailList, AllocError> {
 /// Takes the fields of a site one after the other, and answers its requests.
 fn answers(alloc: Global, fuel: u32, fail: FailList, line: &str) -> Result<String, AllocError> {
     let mut site = Site::new(alloc, fuel)?;
-    let machine = Machine::new(alloc, 0, 0)?;
-    let mut run = Run {
-        machine,
-        files: FakeFiles::new(alloc, fail),
-        tables: CalmTables::new(alloc),
-        calls: uncalled(alloc),
-    };
+    let mut files = FakeFiles::new(alloc, fail);
     let mut number = 1_u64;
     let mut out = String::new(alloc);
     let mut name: Option<&str> = None;
     for field in line.split('|') {
         if let Some(at) = name {
-            put_file(&mut run.files, at, field)?;
+            put_file(&mut files, at, field)?;
             name = None;
         } else if is_request(field) {
             if number > 1 {
                 out.push('\n')?;
             }
-            let text = answer(alloc, &mut site, &mut run, number, field)?;
+            let text = answer(alloc, &mut site, number, field, &mut files)?;
             out.push_str(text.as_str())?;
             number = number.saturating_add(1);
         } else {

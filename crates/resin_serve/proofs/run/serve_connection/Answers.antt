@@ -1,4 +1,6 @@
-use Rattle.std.proofs.Common.{refl, sym, ap, ◌∙◌, ◌≡◌}
+use Rattle.std.proofs.Common.{refl, sym, ap, subst, ◌∙◌, ◌≡◌}
+use Rattle.resin_base.specs.declared.calls.Calls.{Calls}
+use Rattle.resin_site.specs.Keeping.{Later}
 use Rattle.resin_trace.specs.Lines.{at, stream_of}
 use Rattle.resin_serve.specs.declared.run.Service.{Service}
 use Rattle.resin_serve.specs.Asked.{served}
@@ -52,7 +54,7 @@ answers-preserved g c =
     let same = c.next_request.ensures.same in
     let so_far = rw (sym same) at c.answers.invariant.so_far in
     let s = c.in-Whole.ensures in
-    let here : at c.serve_request.new.serving.connections c.args.conn ≡ _ = ap (λ l. at l c.args.conn) s.same.1 ∙ c.used.ensures.here in
+    let here : at c.serve_request.new.run.connections c.args.conn ≡ _ = ap (λ l. at l c.args.conn) s.same.1 ∙ c.used.ensures.here in
     let t = ask_at _ _ _ _ _ (ap (λ l. stream_of (at l c.args.conn)) (sym same)) f here in
     record {
       service = s.same.0 ∙ c.answers.invariant.service;
@@ -68,7 +70,7 @@ pub answers-smaller : goal.answers-smaller
 answers-smaller g c =
     let f = rw c.in-Ok-Got.field-0-is at c.in-Ok-Got.ensures.steps in
     let same = c.next_request.ensures.same in
-    let here : at c.serve_request.new.serving.connections c.args.conn ≡ _ = ap (λ l. at l c.args.conn) c.in-Whole.ensures.same.1 ∙ c.used.ensures.here in
+    let here : at c.serve_request.new.run.connections c.args.conn ≡ _ = ap (λ l. at l c.args.conn) c.in-Whole.ensures.same.1 ∙ c.used.ensures.here in
     rw (sym same) (ask_at _ _ _ _ _ (ap (λ l. stream_of (at l c.args.conn)) (sym same)) f here).1
 
 pub returns-in-Ok-Refuse-clause-ran : goal.returns-in-Ok-Refuse-clause-ran
@@ -78,7 +80,7 @@ returns-in-Ok-Refuse-clause-ran g c = λ place K k.
     let so_far = rw (sym same) at c.answers.invariant.so_far in
     let s = c.serve_refusal.ensures in
     let t = refuse_at _ _ _ _ (ap (λ l. stream_of (at l c.args.conn)) (sym same)) f c.refuse.ensures.here in
-    line_last _ _ _ _ _ _ _ _ _ _ _ _ _ _ so_far t.0 t.1 place K (s.ran place K _ _ _ c.args.serving.now.service (sym (ap (λ (x : Service). x.logging) c.answers.invariant.service))) k
+    line_last _ _ _ _ _ _ _ _ _ _ _ _ _ _ so_far t.0 t.1 place K (s.ran place K _ _ c.args.run.now.service (sym (ap (λ (x : Service). x.logging) c.answers.invariant.service))) (subst (λ (x : Calls). Later x.made x.failed K) s.same.2 k)
 
 pub returns-in-Ok-Refuse-clause-line : goal.returns-in-Ok-Refuse-clause-line
 returns-in-Ok-Refuse-clause-line g c =

@@ -14,20 +14,20 @@ use Rattle.resin_serve.proofs.run.serve_connection.Given as goal
 
 abbrev pub invariant-answers : goal.invariant-answers
 invariant-answers g l = record {
-  service : l.serving.service ≡ l.fn.serving.service;
-  others : (c : ℕ) → c ≢ l.conn → at l.serving.connections c ≡ at l.fn.serving.connections c;
-  some : IsSome (at l.serving.connections l.conn);
+  service : l.run.service ≡ l.fn.run.service;
+  others : (c : ℕ) → c ≢ l.conn → at l.run.connections c ≡ at l.fn.run.connections c;
+  some : IsSome (at l.run.connections l.conn);
   numbered : AreNumbered l.run.calls;
-  kept : Kept (keepers l.fn.run.calls.made l.fn.run.calls.failed (g.F.Files.answers l.fn.run.files) (g.F.Files.faults l.fn.run.files) (g.T.Tables.answers l.fn.run.tables) (g.T.Tables.faults l.fn.run.tables))
-      (keepers l.run.calls.made l.run.calls.failed (g.F.Files.answers l.run.files) (g.F.Files.faults l.run.files) (g.T.Tables.answers l.run.tables) (g.T.Tables.faults l.run.tables));
+  kept : Kept (keepers l.fn.run.calls.made l.fn.run.calls.failed (g.F.Files.answers l.fn.files) (g.F.Files.faults l.fn.files) (g.T.Tables.answers l.fn.tables) (g.T.Tables.faults l.fn.tables))
+      (keepers l.run.calls.made l.run.calls.failed (g.F.Files.answers l.files) (g.F.Files.faults l.files) (g.T.Tables.answers l.tables) (g.T.Tables.faults l.tables));
   cause : CausedIn Whole
       (sinks (counts (g.L.Sink.faults l.fn.log) (g.L.Sink.stalls l.fn.log)) (counts (g.M.Sink.faults l.fn.mail) (g.M.Sink.stalls l.fn.mail)) (counts (g.O.Sink.faults l.fn.out) (g.O.Sink.stalls l.fn.out)))
       (sinks (counts (g.L.Sink.faults l.log) (g.L.Sink.stalls l.log)) (counts (g.M.Sink.faults l.mail) (g.M.Sink.stalls l.mail)) (counts (g.O.Sink.faults l.out) (g.O.Sink.stalls l.out)));
-  so_far : LineLoop (served l.fn.serving.service) l.conn l.fn.serving.number (at l.fn.serving.connections l.conn)
-      (world (g.L.Sink.written l.fn.log) (g.M.Sink.written l.fn.mail) (g.O.Sink.written l.fn.out) (store_of (g.F.Files.stored l.fn.run.files) (g.T.Tables.stored l.fn.run.tables)) (answers (g.F.Files.answers l.fn.run.files) (g.T.Tables.answers l.fn.run.tables)) l.fn.run.calls.made)
-      (at l.serving.connections l.conn) l.serving.number l.run.calls.made l.run.calls.failed
-      (world (g.L.Sink.written l.log) (g.M.Sink.written l.mail) (g.O.Sink.written l.out) (store_of (g.F.Files.stored l.run.files) (g.T.Tables.stored l.run.tables)) (answers (g.F.Files.answers l.run.files) (g.T.Tables.answers l.run.tables)) l.run.calls.made);
+  so_far : LineLoop (served l.fn.run.service) l.conn l.fn.run.number (at l.fn.run.connections l.conn)
+      (world (g.L.Sink.written l.fn.log) (g.M.Sink.written l.fn.mail) (g.O.Sink.written l.fn.out) (store_of (g.F.Files.stored l.fn.files) (g.T.Tables.stored l.fn.tables)) (answers (g.F.Files.answers l.fn.files) (g.T.Tables.answers l.fn.tables)) l.fn.run.calls.made)
+      (at l.run.connections l.conn) l.run.number l.run.calls.made l.run.calls.failed
+      (world (g.L.Sink.written l.log) (g.M.Sink.written l.mail) (g.O.Sink.written l.out) (store_of (g.F.Files.stored l.files) (g.T.Tables.stored l.tables)) (answers (g.F.Files.answers l.files) (g.T.Tables.answers l.tables)) l.run.calls.made);
 }
 
 abbrev pub decreases-answers : goal.decreases-answers
-decreases-answers g l = length (stream_of (at l.serving.connections l.conn))
+decreases-answers g l = length (stream_of (at l.run.connections l.conn))

@@ -8,10 +8,10 @@ pub returns-in-None-clause-run : goal.returns-in-None-clause-run
 returns-in-None-clause-run g c = λ logging fuel all f p. no_task _ _ c.in-None.ensures f
 
 pub returns-in-None-clause-kept : goal.returns-in-None-clause-kept
-returns-in-None-clause-kept g c = rw (c.ended.ensures.3, c.ended.ensures.4) (kept_ended _ _ _ _ _ _ c.ended.ensures.1 c.ended.ensures.2)
+returns-in-None-clause-kept g c = kept_ended _ _ _ _ _ _ c.ended.ensures.1 c.ended.ensures.2
 
 pub returns-in-Some-Audit-clause-kept : goal.returns-in-Some-Audit-clause-kept
-returns-in-Some-Audit-clause-kept g c = rw (c.ended-in-Some-Audit.ensures.3, c.ended-in-Some-Audit.ensures.4) (kept_ended _ _ _ _ _ _ c.ended-in-Some-Audit.ensures.1 c.ended-in-Some-Audit.ensures.2)
+returns-in-Some-Audit-clause-kept g c = kept_ended _ _ _ _ _ _ c.ended-in-Some-Audit.ensures.1 c.ended-in-Some-Audit.ensures.2
 
 pub returns-in-Some-Audit-clause-answers : goal.returns-in-Some-Audit-clause-answers
 returns-in-Some-Audit-clause-answers g c = λ all f p short calm.

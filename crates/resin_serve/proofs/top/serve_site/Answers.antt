@@ -10,12 +10,6 @@ returns-in_default-clause-run g c = λ all p. runs_nothing _ _ all _ _ p
 pub returns-in_default-clause-kept : goal.returns-in_default-clause-kept
 returns-in_default-clause-kept g c = kept_new _ _ _ _ _ c.new.ensures
 
-pub returns-in_default-new-clause-run : goal.returns-in_default-new-clause-run
-returns-in_default-new-clause-run g c = λ all p. runs_nothing _ _ all _ _ p
-
-pub returns-in_default-new-clause-kept : goal.returns-in_default-new-clause-kept
-returns-in_default-new-clause-kept g c = kept_new _ _ _ _ _ c.new.ensures
-
 pub returns-clause-run : goal.returns-clause-run
 returns-clause-run g c = λ all p.
     runs_with _ c.args.logging _ c.args.fuel _ all _ _ _ c.in-Ok.ensures (c.serve_trace-status.ensures.ran _ all (later_self _ _) p)

@@ -16,63 +16,59 @@ pub returns-in_err-path-clause-served : goal.returns-in_err-path-clause-served
 returns-in_err-path-clause-served g c =
     let p = err_from_is_err_and c.from_residual.result c.from_residual.ensures.1 in
     rw p.1 (λ K later. served_nothing c.args.site.now c.args.number c.args.r.now
-    (seen (g.F.Files.stored c.args.run.now.files) (g.F.Files.faults c.args.run.now.files) (g.F.Files.answers c.args.run.now.files))
-    (seen (g.T.Tables.stored c.args.run.now.tables) (g.T.Tables.faults c.args.run.now.tables) (g.T.Tables.answers c.args.run.now.tables)) c.args.run.now.calls K p.0)
+    (seen (g.F.Files.stored c.args.files.now) (g.F.Files.faults c.args.files.now) (g.F.Files.answers c.args.files.now))
+    (seen (g.T.Tables.stored c.args.tables.now) (g.T.Tables.faults c.args.tables.now) (g.T.Tables.answers c.args.tables.now)) c.args.calls.now K p.0)
 
 pub returns-in_err-path-clause-told : goal.returns-in_err-path-clause-told
-returns-in_err-path-clause-told g c = ([], tells_none _ _ c.args.run.now.calls.made c.args.run.now.calls.failed)
+returns-in_err-path-clause-told g c = ([], tells_none _ _ c.args.calls.now.made c.args.calls.now.failed)
 
 pub returns-in_err-inputs-clause-served : goal.returns-in_err-inputs-clause-served
 returns-in_err-inputs-clause-served g c =
     let p = err_from_is_err_and c.from_residual-in_err-inputs.result c.from_residual-in_err-inputs.ensures.1 in
     rw p.1 (λ K later. served_nothing c.args.site.now c.args.number c.args.r.now
-    (seen (g.F.Files.stored c.args.run.now.files) (g.F.Files.faults c.args.run.now.files) (g.F.Files.answers c.args.run.now.files))
-    (seen (g.T.Tables.stored c.args.run.now.tables) (g.T.Tables.faults c.args.run.now.tables) (g.T.Tables.answers c.args.run.now.tables)) c.args.run.now.calls K p.0)
+    (seen (g.F.Files.stored c.args.files.now) (g.F.Files.faults c.args.files.now) (g.F.Files.answers c.args.files.now))
+    (seen (g.T.Tables.stored c.args.tables.now) (g.T.Tables.faults c.args.tables.now) (g.T.Tables.answers c.args.tables.now)) c.args.calls.now K p.0)
 
 pub returns-in_err-inputs-clause-told : goal.returns-in_err-inputs-clause-told
-returns-in_err-inputs-clause-told g c = ([], tells_none _ _ c.args.run.now.calls.made c.args.run.now.calls.failed)
+returns-in_err-inputs-clause-told g c = ([], tells_none _ _ c.args.calls.now.made c.args.calls.now.failed)
 
-pub returns-in_err-machine-clause-served : goal.returns-in_err-machine-clause-served
-returns-in_err-machine-clause-served g c =
-    let p = err_from_is_err_and c.from_residual-in_err-machine.result c.from_residual-in_err-machine.ensures.1 in
+pub returns-in_err-m-clause-served : goal.returns-in_err-m-clause-served
+returns-in_err-m-clause-served g c =
+    let p = err_from_is_err_and c.from_residual-in_err-m.result c.from_residual-in_err-m.ensures.1 in
     rw p.1 (λ K later. served_nothing c.args.site.now c.args.number c.args.r.now
-    (seen (g.F.Files.stored c.args.run.now.files) (g.F.Files.faults c.args.run.now.files) (g.F.Files.answers c.args.run.now.files))
-    (seen (g.T.Tables.stored c.args.run.now.tables) (g.T.Tables.faults c.args.run.now.tables) (g.T.Tables.answers c.args.run.now.tables)) c.args.run.now.calls K p.0)
+    (seen (g.F.Files.stored c.args.files.now) (g.F.Files.faults c.args.files.now) (g.F.Files.answers c.args.files.now))
+    (seen (g.T.Tables.stored c.args.tables.now) (g.T.Tables.faults c.args.tables.now) (g.T.Tables.answers c.args.tables.now)) c.args.calls.now K p.0)
 
-pub returns-in_err-machine-clause-told : goal.returns-in_err-machine-clause-told
-returns-in_err-machine-clause-told g c = ([], tells_none _ _ c.args.run.now.calls.made c.args.run.now.calls.failed)
+pub returns-in_err-m-clause-told : goal.returns-in_err-m-clause-told
+returns-in_err-m-clause-told g c = ([], tells_none _ _ c.args.calls.now.made c.args.calls.now.failed)
 
 pub returns : goal.returns
 returns g c =
-    let f = seen (g.F.Files.stored c.args.run.now.files) (g.F.Files.faults c.args.run.now.files) (g.F.Files.answers c.args.run.now.files) in
-    let t = seen (g.T.Tables.stored c.args.run.now.tables) (g.T.Tables.faults c.args.run.now.tables) (g.T.Tables.answers c.args.run.now.tables) in
+    let f = seen (g.F.Files.stored c.args.files.now) (g.F.Files.faults c.args.files.now) (g.F.Files.answers c.args.files.now) in
+    let t = seen (g.T.Tables.stored c.args.tables.now) (g.T.Tables.faults c.args.tables.now) (g.T.Tables.answers c.args.tables.now) in
     let s = c.run_request-finish in
-    let f' = seen (g.F.Files.stored s.new.run.files) (g.F.Files.faults s.new.run.files) (g.F.Files.answers s.new.run.files) in
-    let t' = seen (g.T.Tables.stored s.new.run.tables) (g.T.Tables.faults s.new.run.tables) (g.T.Tables.answers s.new.run.tables) in
-    let u = world c.in_ok-machine.machine f t c.args.run.now.calls in
-    let w = world s.new.run.machine f' t' s.new.run.calls in
+    let f' = seen (g.F.Files.stored s.new.files) (g.F.Files.faults s.new.files) (g.F.Files.answers s.new.files) in
+    let t' = seen (g.T.Tables.stored s.new.tables) (g.T.Tables.faults s.new.tables) (g.T.Tables.answers s.new.tables) in
+    let u = world c.in_ok-m.m f t c.args.calls.now in
+    let w = world s.new.m f' t' s.new.calls in
     let path : c.as_slice-2.result.now ≡ path_of c.args.r.now.target = c.as_slice-2.ensures.value ∙ c.in_ok-path.ensures ∙ ap path_of c.as_slice.ensures in
     let path-3 : c.as_slice-3.result.now ≡ path_of c.args.r.now.target = c.as_slice-3.ensures.value ∙ sym c.as_slice-2.ensures.value ∙ path in
-    -- the request has a machine of its own, and its outcome is made of that
-    let runs = rw c.replace-idle.ensures.after at s.ensures in
-    let made = rw c.replace-machine.ensures.value at c.outcome_for.ensures.outcome in
-    let lawful = rw c.replace-machine.ensures.value at c.outcome_for.ensures.lawful in
-    let begins : c.in_ok-machine.machine ≡ new_state c.args.site.now c.args.number = c.in_ok-machine.ensures.value ∙ ap (λ n. new_state n c.args.number) c.fuel.ensures in
-    let d = as_asked c.args.site.now c.args.number c.args.r.now c.as_slice-2.result.now c.in_ok-inputs.inputs c.in_ok-machine.machine f t c.args.run.now.calls s.result w path c.in_ok-inputs.ensures begins runs in
-    let is : IfOk c.outcome_for.result (λ o. o ≡ outcome (path_of c.args.r.now.target) (is_head c.args.r.now.method) s.result s.new.run.machine) =
-    subst (λ h. IfOk c.outcome_for.result (λ o. o ≡ outcome (path_of c.args.r.now.target) h s.result s.new.run.machine)) c.is_head.ensures
-    (subst (λ p. IfOk c.outcome_for.result (λ o. o ≡ outcome p c.is_head.result s.result s.new.run.machine)) path-3 made) in
-    let up = made_up u w (done runs).goes in
-    let b = (done runs).blames in
+    let begins : c.in_ok-m.m ≡ new_state c.args.site.now c.args.number = c.in_ok-m.ensures.value ∙ ap (λ n. new_state n c.args.number) c.fuel.ensures in
+    let d = as_asked c.args.site.now c.args.number c.args.r.now c.as_slice-2.result.now c.in_ok-inputs.inputs c.in_ok-m.m f t c.args.calls.now s.result w path c.in_ok-inputs.ensures begins s.ensures in
+    let is : IfOk c.outcome_for.result (λ o. o ≡ outcome (path_of c.args.r.now.target) (is_head c.args.r.now.method) s.result s.new.m) =
+    subst (λ h. IfOk c.outcome_for.result (λ o. o ≡ outcome (path_of c.args.r.now.target) h s.result s.new.m)) c.is_head.ensures
+    (subst (λ p. IfOk c.outcome_for.result (λ o. o ≡ outcome p c.is_head.result s.result s.new.m)) path-3 c.outcome_for.ensures.outcome) in
+    let up = made_up u w (done s.ensures).goes in
+    let b = (done s.ensures).blames in
     record {
       site = refl;
       numbered = numbered_after s.result u w up b c.requires;
       later = passes s.result u w up b;
-      served = λ K k. served_end c.args.site.now c.args.number c.args.r.now f f' t t' c.args.run.now.calls s.new.run.calls s.new.run.machine s.result c.requires d K k c.outcome_for.result is c.outcome_for.ensures.memory;
-      lawful = lawful_end c.args.site.now c.args.number _ c.in_ok-machine.machine s.new.run.machine f f' t t' c.args.run.now.calls s.new.run.calls s.result c.outcome_for.result begins c.in_ok-machine.ensures.tied runs
-          c.outcome_for.ensures.memory lawful;
-      ends = ends_end (path_of c.args.r.now.target) (is_head c.args.r.now.method) s.new.run.machine u w s.result c.outcome_for.result is c.outcome_for.ensures.memory b;
+      served = λ K k. served_end c.args.site.now c.args.number c.args.r.now f f' t t' c.args.calls.now s.new.calls s.new.m s.result c.requires d K k c.outcome_for.result is c.outcome_for.ensures.memory;
+      lawful = lawful_end c.args.site.now c.args.number _ c.in_ok-m.m s.new.m f f' t t' c.args.calls.now s.new.calls s.result c.outcome_for.result begins c.in_ok-m.ensures.tied s.ensures
+          c.outcome_for.ensures.memory c.outcome_for.ensures.lawful;
+      ends = ends_end (path_of c.args.r.now.target) (is_head c.args.r.now.method) s.new.m u w s.result c.outcome_for.result is c.outcome_for.ensures.memory b;
       blames = blames s.result u w b;
       counted = counted s.result u w b;
-      told = ((done runs).goes.calls, tells u w c.requires (done runs).goes);
+      told = ((done s.ensures).goes.calls, tells u w c.requires (done s.ensures).goes);
     }

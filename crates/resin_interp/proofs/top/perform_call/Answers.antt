@@ -1,5 +1,5 @@
 use Rattle.resin_program.proofs.Composition.{does_exit, does_lost_exit, does_next}
-use Rattle.resin_interp.proofs.top.call_function.Goals as goal
+use Rattle.resin_interp.proofs.top.perform_call.Goals as goal
 
 pub returns-in_err-callee : goal.returns-in_err-callee
 returns-in_err-callee g c =

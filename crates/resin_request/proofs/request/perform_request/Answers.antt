@@ -2,7 +2,7 @@ use Rattle.std.proofs.Common.{sym, ◌∙◌}
 use Rattle.resin_request.specs.declared.request.Finish.TheVariants.{Missing}
 use Rattle.resin_program.proofs.Composition.{does_next, does_exit, does_give}
 use Rattle.resin_invoke.proofs.Arms.{does_yes, does_no}
-use Rattle.resin_request.proofs.request.run_request.Goals as goal
+use Rattle.resin_request.proofs.request.perform_request.Goals as goal
 
 pub returns-then-not-is_open : goal.returns-then-not-is_open
 returns-then-not-is_open g c = does_no _ _ _ (sym c.is_open.ensures ∙ c.if-not-is_open.true) (does_give Missing _)

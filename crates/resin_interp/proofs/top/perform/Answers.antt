@@ -1,5 +1,5 @@
 use Rattle.resin_interp.proofs.Exits.{does_program}
-use Rattle.resin_interp.proofs.top.run_program.Goals as goal
+use Rattle.resin_interp.proofs.top.perform.Goals as goal
 
 pub returns : goal.returns
 returns g c =
