@@ -218,7 +218,13 @@ pub fn run_request<F: Files, T: Tables>(
         (world m.old (seen (F.stored files.old) (F.faults files.old) (F.answers files.old)) (seen (T.stored tables.old) (T.faults tables.old) (T.answers tables.old)) calls.old) result
         (world m.new (seen (F.stored files.new) (F.faults files.new) (F.answers files.new)) (seen (T.stored tables.new) (T.faults tables.new) (T.answers tables.new)) calls.new) }
 {
-    with_run(m, files, tables, calls, |run| {
-        perform_request(alloc, run, path, inputs)
-    })
+    with_run(
+        m,
+        files,
+        tables,
+        calls,
+        |run|
+            ensures { Performs F.Files T.Tables (request_program path.entry.now inputs) run.old result run.new }
+        { perform_request(alloc, run, path, inputs) },
+    )
 }
