@@ -1,15 +1,15 @@
 //! Assignments: the index expressions of the target come first, then the right side, then the old value where the form needs it, and last the value is
 //! stored.
-ghost use Rattle.resin_invoke.specs.Nested.{Nests};
-ghost use Rattle.std.specs.Prelude.{if◌then◌else◌};
-ghost use Rattle.resin_program.specs.Runs.{Does, seen, world};
-ghost use Rattle.resin_evaluation.specs.Programs.{evals};
 ghost use Rattle.resin_evaluation.specs.Forms as form;
+ghost use Rattle.resin_invoke.specs.Nested.{Nests, means};
+ghost use Rattle.resin_invoke.specs.Running.{Performs};
+ghost use Rattle.std.specs.Prelude.{if◌then◌else◌};
 
-use resin_base::{Calls, Files, Tables};
-use resin_invoke::nested::{Nested, Outcome, expr};
-use resin_machine::{Machine, Stop};
-use resin_merges::merges::{combined, decremented, incremented};
+use resin_base::{Files, Tables};
+use resin_invoke::nested::{Evaluator, Nested, Outcome};
+use resin_invoke::run::Run;
+use resin_machine::Stop;
+use resin_merges::merges::Merger;
 use resin_runtime::statements::stored_value;
 use resin_steps::reads::is_nothing;
 use resin_target::{Index, Path, fetch, store};
@@ -17,363 +17,137 @@ use resin_tree::{Assignment, Combining, Expr, PathStep, Target};
 use resin_value::Value;
 use std::alloc::Global;
 
-// One more postfix.
-fn step<
+/// Assignments, by an evaluator.
+#[derive(Drop)]
+pub struct Assigner<'e, F, T, N> {
+    pub by: &'e Evaluator<F, T, N>,
+}
+
+impl<
     F: Files,
     T: Tables,
-    N: Fn(
-        Global,
-        u32,
-        Nested<'_>,
-        &mut Machine,
-        &mut F,
-        &mut T,
-        &mut Calls,
-    ) -> Result<Outcome, Stop>
-        + Copy,
->(
-    alloc: Global,
-    room: u32,
-    nested: N,
-    path: Path,
-    s: &PathStep,
-    m: &mut Machine,
-    files: &mut F,
-    tables: &mut T,
-    calls: &mut Calls,
-) -> Result<Path, Stop>
-    requires { Nests F.Files T.Tables room (N.pre nested) (N.post nested) }
-    ensures { Does (form.step (evals room) path s.now) (world m.old (seen (F.stored files.old) (F.faults files.old) (F.answers files.old)) (seen (T.stored tables.old) (T.faults tables.old) (T.answers tables.old)) calls.old) result (world m.new (seen (F.stored files.new) (F.faults files.new) (F.answers files.new)) (seen (T.stored tables.new) (T.faults tables.new) (T.answers tables.new)) calls.new) }
-{
-    match s {
-        PathStep::Index(e) => {
-            let v = expr(alloc, room, nested, e.get(), m, files, tables, calls)?;
-            Ok(path.with_index(Index::At(v))?)
+    N: Fn(Global, u32, Nested<'_>, &mut Run<F, T>) -> Result<Outcome, Stop> + Copy,
+> Assigner<'_, F, T, N> {
+    // One more postfix.
+    fn step(&self, run: &mut Run<F, T>, path: Path, s: &PathStep) -> Result<Path, Stop>
+        requires { Nests F.Files T.Tables N.pre N.post self.now.by.now }
+        ensures { Performs F.Files T.Tables (form.step (means self.now.by.now) path s.now) run.old result run.new }
+    {
+        match s {
+            PathStep::Index(e) => {
+                let v = self.by.expr(run, e.get())?;
+                Ok(path.with_index(Index::At(v))?)
+            }
+            PathStep::Append => Ok(path.with_index(Index::Next)?),
+            PathStep::Property(p) => Ok(path.with_property(self.by.alloc, p.clone()?)?),
         }
-        PathStep::Append => Ok(path.with_index(Index::Next)?),
-        PathStep::Property(p) => Ok(path.with_property(alloc, p.clone()?)?),
     }
-}
 
-/// The postfixes of a target, their index expressions evaluated from the left. It stops only as these do.
-pub fn steps<
-    F: Files,
-    T: Tables,
-    N: Fn(
-        Global,
-        u32,
-        Nested<'_>,
-        &mut Machine,
-        &mut F,
-        &mut T,
-        &mut Calls,
-    ) -> Result<Outcome, Stop>
-        + Copy,
->(
-    alloc: Global,
-    room: u32,
-    nested: N,
-    path: &[PathStep],
-    m: &mut Machine,
-    files: &mut F,
-    tables: &mut T,
-    calls: &mut Calls,
-) -> Result<Path, Stop>
-    requires { Nests F.Files T.Tables room (N.pre nested) (N.post nested) }
-    ensures { Does (form.steps (evals room) path.now) (world m.old (seen (F.stored files.old) (F.faults files.old) (F.answers files.old)) (seen (T.stored tables.old) (T.faults tables.old) (T.answers tables.old)) calls.old) result (world m.new (seen (F.stored files.new) (F.faults files.new) (F.answers files.new)) (seen (T.stored tables.new) (T.faults tables.new) (T.answers tables.new)) calls.new) }
-{
-    let mut out = Path::new(alloc);
-    for s in path {
-        out = step(alloc, room, nested, out, s, m, files, tables, calls)?;
+    /// The postfixes of a target, their index expressions evaluated from the left. It stops only as these do.
+    pub fn steps(&self, run: &mut Run<F, T>, path: &[PathStep]) -> Result<Path, Stop>
+        requires { Nests F.Files T.Tables N.pre N.post self.now.by.now }
+        ensures { Performs F.Files T.Tables (form.steps (means self.now.by.now) path.now) run.old result run.new }
+    {
+        let mut out = Path::new(self.by.alloc);
+        for s in path {
+            out = self.step(run, out, s)?;
+        }
+        Ok(out)
     }
-    Ok(out)
-}
 
-// `t = e`
-fn assign<
-    F: Files,
-    T: Tables,
-    N: Fn(
-        Global,
-        u32,
-        Nested<'_>,
-        &mut Machine,
-        &mut F,
-        &mut T,
-        &mut Calls,
-    ) -> Result<Outcome, Stop>
-        + Copy,
->(
-    alloc: Global,
-    room: u32,
-    nested: N,
-    t: &Target,
-    e: &Expr,
-    m: &mut Machine,
-    files: &mut F,
-    tables: &mut T,
-    calls: &mut Calls,
-) -> Result<Value, Stop>
-    requires { Nests F.Files T.Tables room (N.pre nested) (N.post nested) }
-    ensures { Does (form.assign (evals room) t.now e.now) (world m.old (seen (F.stored files.old) (F.faults files.old) (F.answers files.old)) (seen (T.stored tables.old) (T.faults tables.old) (T.answers tables.old)) calls.old) result (world m.new (seen (F.stored files.new) (F.faults files.new) (F.answers files.new)) (seen (T.stored tables.new) (T.faults tables.new) (T.answers tables.new)) calls.new) }
-{
-    let path = steps(
-        alloc,
-        room,
-        nested,
-        t.path.as_slice(),
-        m,
-        files,
-        tables,
-        calls,
-    )?;
-    let v = expr(alloc, room, nested, e, m, files, tables, calls)?;
-    stored_value(alloc, m, t, &path, v)
-}
-
-// `t += e` and its kin: the old value is read once the right side stands.
-fn compound<
-    F: Files,
-    T: Tables,
-    N: Fn(
-        Global,
-        u32,
-        Nested<'_>,
-        &mut Machine,
-        &mut F,
-        &mut T,
-        &mut Calls,
-    ) -> Result<Outcome, Stop>
-        + Copy,
->(
-    alloc: Global,
-    room: u32,
-    nested: N,
-    op: Combining,
-    t: &Target,
-    e: &Expr,
-    m: &mut Machine,
-    files: &mut F,
-    tables: &mut T,
-    calls: &mut Calls,
-) -> Result<Value, Stop>
-    requires { Nests F.Files T.Tables room (N.pre nested) (N.post nested) }
-    ensures { Does (form.compound (evals room) op t.now e.now) (world m.old (seen (F.stored files.old) (F.faults files.old) (F.answers files.old)) (seen (T.stored tables.old) (T.faults tables.old) (T.answers tables.old)) calls.old) result (world m.new (seen (F.stored files.new) (F.faults files.new) (F.answers files.new)) (seen (T.stored tables.new) (T.faults tables.new) (T.answers tables.new)) calls.new) }
-{
-    let path = steps(
-        alloc,
-        room,
-        nested,
-        t.path.as_slice(),
-        m,
-        files,
-        tables,
-        calls,
-    )?;
-    let y = expr(alloc, room, nested, e, m, files, tables, calls)?;
-    let x = fetch(alloc, m, &t.variable, &path)?;
-    let v = combined(alloc, room, nested, op, &x, &y, m, files, tables, calls)?;
-    stored_value(alloc, m, t, &path, v)
-}
-
-// `t ??= e`: the right side is evaluated only where the target is null.
-fn coalesce_assign<
-    F: Files,
-    T: Tables,
-    N: Fn(
-        Global,
-        u32,
-        Nested<'_>,
-        &mut Machine,
-        &mut F,
-        &mut T,
-        &mut Calls,
-    ) -> Result<Outcome, Stop>
-        + Copy,
->(
-    alloc: Global,
-    room: u32,
-    nested: N,
-    t: &Target,
-    e: &Expr,
-    m: &mut Machine,
-    files: &mut F,
-    tables: &mut T,
-    calls: &mut Calls,
-) -> Result<Value, Stop>
-    requires { Nests F.Files T.Tables room (N.pre nested) (N.post nested) }
-    ensures { Does (form.coalesce_assign (evals room) t.now e.now) (world m.old (seen (F.stored files.old) (F.faults files.old) (F.answers files.old)) (seen (T.stored tables.old) (T.faults tables.old) (T.answers tables.old)) calls.old) result (world m.new (seen (F.stored files.new) (F.faults files.new) (F.answers files.new)) (seen (T.stored tables.new) (T.faults tables.new) (T.answers tables.new)) calls.new) }
-{
-    let path = steps(
-        alloc,
-        room,
-        nested,
-        t.path.as_slice(),
-        m,
-        files,
-        tables,
-        calls,
-    )?;
-    let x = fetch(alloc, m, &t.variable, &path)?;
-    if !is_nothing(&x) {
-        return Ok(x);
+    // `t = e`
+    fn assign(&self, run: &mut Run<F, T>, t: &Target, e: &Expr) -> Result<Value, Stop>
+        requires { Nests F.Files T.Tables N.pre N.post self.now.by.now }
+        ensures { Performs F.Files T.Tables (form.assign (means self.now.by.now) t.now e.now) run.old result run.new }
+    {
+        let path = self.steps(run, t.path.as_slice())?;
+        let v = self.by.expr(run, e)?;
+        stored_value(self.by.alloc, &mut run.machine, t, &path, v)
     }
-    let v = expr(alloc, room, nested, e, m, files, tables, calls)?;
-    stored_value(alloc, m, t, &path, v)
-}
 
-// One more, or one less.
-fn stepped<
-    F: Files,
-    T: Tables,
-    N: Fn(
-        Global,
-        u32,
-        Nested<'_>,
-        &mut Machine,
-        &mut F,
-        &mut T,
-        &mut Calls,
-    ) -> Result<Outcome, Stop>
-        + Copy,
->(
-    alloc: Global,
-    room: u32,
-    nested: N,
-    up: bool,
-    v: &Value,
-    m: &mut Machine,
-    files: &mut F,
-    tables: &mut T,
-    calls: &mut Calls,
-) -> Result<Value, Stop>
-    requires { Nests F.Files T.Tables room (N.pre nested) (N.post nested) }
-    ensures { Does ((if up then form.incremented (evals room) else form.decremented (evals room)) v.now) (world m.old (seen (F.stored files.old) (F.faults files.old) (F.answers files.old)) (seen (T.stored tables.old) (T.faults tables.old) (T.answers tables.old)) calls.old) result (world m.new (seen (F.stored files.new) (F.faults files.new) (F.answers files.new)) (seen (T.stored tables.new) (T.faults tables.new) (T.answers tables.new)) calls.new) }
-{
-    if up {
-        return incremented(alloc, room, nested, v, m, files, tables, calls);
+    // `t += e` and its kin: the old value is read once the right side stands.
+    fn compound(
+        &self,
+        run: &mut Run<F, T>,
+        op: Combining,
+        t: &Target,
+        e: &Expr,
+    ) -> Result<Value, Stop>
+        requires { Nests F.Files T.Tables N.pre N.post self.now.by.now }
+        ensures { Performs F.Files T.Tables (form.compound (means self.now.by.now) op t.now e.now) run.old result run.new }
+    {
+        let path = self.steps(run, t.path.as_slice())?;
+        let y = self.by.expr(run, e)?;
+        let x = fetch(self.by.alloc, &mut run.machine, &t.variable, &path)?;
+        let v = Merger { by: self.by }.combined(run, op, &x, &y)?;
+        stored_value(self.by.alloc, &mut run.machine, t, &path, v)
     }
-    decremented(alloc, room, nested, v, m, files, tables, calls)
-}
 
-// Counts a target up or down: the value that stood before, and the one that is stored.
-fn counted<
-    F: Files,
-    T: Tables,
-    N: Fn(
-        Global,
-        u32,
-        Nested<'_>,
-        &mut Machine,
-        &mut F,
-        &mut T,
-        &mut Calls,
-    ) -> Result<Outcome, Stop>
-        + Copy,
->(
-    alloc: Global,
-    room: u32,
-    nested: N,
-    up: bool,
-    t: &Target,
-    m: &mut Machine,
-    files: &mut F,
-    tables: &mut T,
-    calls: &mut Calls,
-) -> Result<(Value, Value), Stop>
-    requires { Nests F.Files T.Tables room (N.pre nested) (N.post nested) }
-    ensures { Does (form.changed (evals room) (if up then form.incremented (evals room) else form.decremented (evals room)) t.now) (world m.old (seen (F.stored files.old) (F.faults files.old) (F.answers files.old)) (seen (T.stored tables.old) (T.faults tables.old) (T.answers tables.old)) calls.old) result (world m.new (seen (F.stored files.new) (F.faults files.new) (F.answers files.new)) (seen (T.stored tables.new) (T.faults tables.new) (T.answers tables.new)) calls.new) }
-{
-    let path = steps(
-        alloc,
-        room,
-        nested,
-        t.path.as_slice(),
-        m,
-        files,
-        tables,
-        calls,
-    )?;
-    let old = fetch(alloc, m, &t.variable, &path)?;
-    let new = stepped(alloc, room, nested, up, &old, m, files, tables, calls)?;
-    let answer = new.clone()?;
-    store(alloc, m, &t.variable, &path, new)?;
-    Ok((old, answer))
-}
+    // `t ??= e`: the right side is evaluated only where the target is null.
+    fn coalesce_assign(&self, run: &mut Run<F, T>, t: &Target, e: &Expr) -> Result<Value, Stop>
+        requires { Nests F.Files T.Tables N.pre N.post self.now.by.now }
+        ensures { Performs F.Files T.Tables (form.coalesce_assign (means self.now.by.now) t.now e.now) run.old result run.new }
+    {
+        let path = self.steps(run, t.path.as_slice())?;
+        let x = fetch(self.by.alloc, &mut run.machine, &t.variable, &path)?;
+        if !is_nothing(&x) {
+            return Ok(x);
+        }
+        let v = self.by.expr(run, e)?;
+        stored_value(self.by.alloc, &mut run.machine, t, &path, v)
+    }
 
-/// A form that writes to a target: its value is the one that is stored, for `x++` and `x--` the one that stood there before, and for `??=` the one that stands
-/// there if that isn't null. It stops as the expressions in it do, as the operator does, and, as `resin_target::store` says, where nothing can be stored
-/// there.
-pub fn assignment<
-    F: Files,
-    T: Tables,
-    N: Fn(
-        Global,
-        u32,
-        Nested<'_>,
-        &mut Machine,
-        &mut F,
-        &mut T,
-        &mut Calls,
-    ) -> Result<Outcome, Stop>
-        + Copy,
->(
-    alloc: Global,
-    room: u32,
-    nested: N,
-    a: &Assignment,
-    m: &mut Machine,
-    files: &mut F,
-    tables: &mut T,
-    calls: &mut Calls,
-) -> Result<Value, Stop>
-    requires { Nests F.Files T.Tables room (N.pre nested) (N.post nested) }
-    ensures { Does (form.assignment_form (evals room) a.now) (world m.old (seen (F.stored files.old) (F.faults files.old) (F.answers files.old)) (seen (T.stored tables.old) (T.faults tables.old) (T.answers tables.old)) calls.old) result (world m.new (seen (F.stored files.new) (F.faults files.new) (F.answers files.new)) (seen (T.stored tables.new) (T.faults tables.new) (T.answers tables.new)) calls.new) }
-{
-    match a {
-        Assignment::Assign(t, e) => assign(
-            alloc,
-            room,
-            nested,
-            t,
-            e.get(),
-            m,
-            files,
-            tables,
-            calls,
-        ),
-        Assignment::Compound(op, t, e) => {
-            compound(
-                alloc,
-                room,
-                nested,
-                *op,
-                t,
-                e.get(),
-                m,
-                files,
-                tables,
-                calls,
-            )
+    // One more, or one less.
+    fn stepped(&self, run: &mut Run<F, T>, up: bool, v: &Value) -> Result<Value, Stop>
+        requires { Nests F.Files T.Tables N.pre N.post self.now.by.now }
+        ensures { Performs F.Files T.Tables ((if up then form.incremented (means self.now.by.now) else form.decremented (means self.now.by.now)) v.now) run.old result run.new }
+    {
+        if up {
+            return Merger { by: self.by }.incremented(run, v);
         }
-        Assignment::CoalesceAssign(t, e) => {
-            coalesce_assign(alloc, room, nested, t, e.get(), m, files, tables, calls)
-        }
-        Assignment::PreIncrement(t) => {
-            let both = counted(alloc, room, nested, true, t, m, files, tables, calls)?;
-            Ok(both.1)
-        }
-        Assignment::PreDecrement(t) => {
-            let both = counted(alloc, room, nested, false, t, m, files, tables, calls)?;
-            Ok(both.1)
-        }
-        Assignment::PostIncrement(t) => {
-            let both = counted(alloc, room, nested, true, t, m, files, tables, calls)?;
-            Ok(both.0)
-        }
-        Assignment::PostDecrement(t) => {
-            let both = counted(alloc, room, nested, false, t, m, files, tables, calls)?;
-            Ok(both.0)
+        Merger { by: self.by }.decremented(run, v)
+    }
+
+    // Counts a target up or down: the value that stood before, and the one that is stored.
+    fn counted(&self, run: &mut Run<F, T>, up: bool, t: &Target) -> Result<(Value, Value), Stop>
+        requires { Nests F.Files T.Tables N.pre N.post self.now.by.now }
+        ensures { Performs F.Files T.Tables (form.changed (means self.now.by.now) (if up then form.incremented (means self.now.by.now) else form.decremented (means self.now.by.now)) t.now) run.old result run.new }
+    {
+        let path = self.steps(run, t.path.as_slice())?;
+        let old = fetch(self.by.alloc, &mut run.machine, &t.variable, &path)?;
+        let new = self.stepped(run, up, &old)?;
+        let answer = new.clone()?;
+        store(self.by.alloc, &mut run.machine, &t.variable, &path, new)?;
+        Ok((old, answer))
+    }
+
+    /// A form that writes to a target: its value is the one that is stored, for `x++` and `x--` the one that stood there before, and for `??=` the one that stands
+    /// there if that isn't null. It stops as the expressions in it do, as the operator does, and, as `resin_target::store` says, where nothing can be stored
+    /// there.
+    pub fn assignment(&self, run: &mut Run<F, T>, a: &Assignment) -> Result<Value, Stop>
+        requires { Nests F.Files T.Tables N.pre N.post self.now.by.now }
+        ensures { Performs F.Files T.Tables (form.assignment_form (means self.now.by.now) a.now) run.old result run.new }
+    {
+        match a {
+            Assignment::Assign(t, e) => self.assign(run, t, e.get()),
+            Assignment::Compound(op, t, e) => { self.compound(run, *op, t, e.get()) }
+            Assignment::CoalesceAssign(t, e) => { self.coalesce_assign(run, t, e.get()) }
+            Assignment::PreIncrement(t) => {
+                let both = self.counted(run, true, t)?;
+                Ok(both.1)
+            }
+            Assignment::PreDecrement(t) => {
+                let both = self.counted(run, false, t)?;
+                Ok(both.1)
+            }
+            Assignment::PostIncrement(t) => {
+                let both = self.counted(run, true, t)?;
+                Ok(both.0)
+            }
+            Assignment::PostDecrement(t) => {
+                let both = self.counted(run, false, t)?;
+                Ok(both.0)
+            }
         }
     }
 }

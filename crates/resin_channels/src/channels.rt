@@ -1,26 +1,26 @@
 //! Functions of channels once their arguments are evaluated: headers, the status, mail and output buffers.
-ghost use Rattle.resin_invoke.specs.Nested.{Nests};
 ghost use Rattle.resin_evaluation.specs.Channels.{flushed, is_count, is_one_line, is_open, leave_status, mail_context, only_looks, status_in, text_or_false};
 ghost use Rattle.resin_evaluation.specs.Forms as form;
-ghost use Rattle.resin_evaluation.specs.Programs.{evals};
 ghost use Rattle.resin_evaluation.specs.Runs.{Runs, on_ok};
 ghost use Rattle.resin_evaluation.specs.declared.callee.ChannelFunction.TheVariants.{Header, Mail, ResponseCode};
+ghost use Rattle.resin_invoke.specs.Nested.{Nests, means};
+ghost use Rattle.resin_invoke.specs.Running.{Performs};
 ghost use Rattle.resin_lstr.specs.Texts.{bytes_of};
 ghost use Rattle.resin_machine.specs.Steps.{awake};
 ghost use Rattle.resin_machine.specs.declared.stop.Stop.TheVariants.{Fault};
 ghost use Rattle.resin_program.specs.Programs.{act, give};
-ghost use Rattle.resin_program.specs.Runs.{Does, seen, world};
 ghost use Rattle.resin_scalar.specs.declared.faults.ScriptFault.TheVariants.{UndefinedFunction};
 ghost use Rattle.resin_value.specs.Seen.{tree_of, trees_of};
 ghost use Rattle.resin_value.specs.Trees.{text as text_tree};
 ghost use Rattle.std.specs.Prelude.{Err, IfOk, [], decimal, if◌then◌else◌, ◌&&◌, ◌≡◌, ◌∷◌};
 
-use resin_arguments::arguments::arguments_of;
-use resin_base::{Calls, Files, Tables};
+use resin_arguments::arguments::Builtins;
+use resin_base::{Files, Tables};
 use resin_evaluation::{ChannelFunction, Outgoing};
 use resin_functions::functions::miscounted;
 use resin_heap::PreludeClass;
-use resin_invoke::nested::{Nested, Outcome};
+use resin_invoke::nested::{Evaluator, Nested, Outcome};
+use resin_invoke::run::Run;
 use resin_leaving::leaving::{context_of, text_key, with_text};
 use resin_lstr::LText;
 use resin_machine::{Machine, Stop};
@@ -30,7 +30,7 @@ use resin_scalar::ScriptFault;
 use resin_steps::operators::{charge_all, given};
 use resin_steps::reads::number;
 use resin_value::{Value, Values};
-use resin_writes::writes::{leave, write_page};
+use resin_writes::writes::Writer;
 use std::alloc::{AllocError, Global};
 
 // What is not built yet.
@@ -60,152 +60,198 @@ fn status_of(v: &Value) -> Option<u16>
     }
 }
 
-// A status leaves, and the answer is the one that was.
-fn leave_status<
-    F: Files,
-    T: Tables,
-    N: Fn(
-        Global,
-        u32,
-        Nested<'_>,
-        &mut Machine,
-        &mut F,
-        &mut T,
-        &mut Calls,
-    ) -> Result<Outcome, Stop>
-        + Copy,
->(
-    alloc: Global,
-    room: u32,
-    nested: N,
-    status: u16,
-    told: LText,
-    m: &mut Machine,
-    files: &mut F,
-    tables: &mut T,
-    calls: &mut Calls,
-) -> Result<Value, Stop>
-    requires nests { Nests F.Files T.Tables room (N.pre nested) (N.post nested) }
-    requires decimal { bytes_of told ≡ decimal status }
-    ensures { Does (leave_status (evals room) status told) (world m.old (seen (F.stored files.old) (F.faults files.old) (F.answers files.old)) (seen (T.stored tables.old) (T.faults tables.old) (T.answers tables.old)) calls.old) (on_ok tree_of result) (world m.new (seen (F.stored files.new) (F.faults files.new) (F.answers files.new)) (seen (T.stored tables.new) (T.faults tables.new) (T.answers tables.new)) calls.new) }
-{
-    let was = m.stage().status();
-    let context = Value::Arr(context_of(alloc, b"header")?);
-    let what = Outgoing::Status(status);
-    leave(
-        alloc, room, nested, &what, &context, told, m, files, tables, calls,
-    )?;
-    Ok(number(i64::from(was)))
+/// Functions of channels, by an evaluator.
+#[derive(Drop)]
+pub struct Sender<'e, F, T, N> {
+    pub by: &'e Evaluator<F, T, N>,
 }
 
-// The status that was, once this one is written.
-fn set_status<
+impl<
     F: Files,
     T: Tables,
-    N: Fn(
-        Global,
-        u32,
-        Nested<'_>,
-        &mut Machine,
-        &mut F,
-        &mut T,
-        &mut Calls,
-    ) -> Result<Outcome, Stop>
-        + Copy,
->(
-    alloc: Global,
-    room: u32,
-    nested: N,
-    n: &Value,
-    m: &mut Machine,
-    files: &mut F,
-    tables: &mut T,
-    calls: &mut Calls,
-) -> Result<Value, Stop>
-    requires { Nests F.Files T.Tables room (N.pre nested) (N.post nested) }
-    ensures { Does (form.set_status (evals room) (form.status_of (tree_of n.now)) (tree_of n.now)) (world m.old (seen (F.stored files.old) (F.faults files.old) (F.answers files.old)) (seen (T.stored tables.old) (T.faults tables.old) (T.answers tables.old)) calls.old) (on_ok tree_of result) (world m.new (seen (F.stored files.new) (F.faults files.new) (F.answers files.new)) (seen (T.stored tables.new) (T.faults tables.new) (T.answers tables.new)) calls.new) }
-{
-    let Some(status) = status_of(n) else {
-        return m.throw(PreludeClass::ValueError, b"");
-    };
-    let told = to_text(alloc, n);
-    let told = m.settle(told)?;
-    leave_status(alloc, room, nested, status, told, m, files, tables, calls)
-}
-
-// A status is set by the first argument.
-fn status_work<
-    F: Files,
-    T: Tables,
-    N: Fn(
-        Global,
-        u32,
-        Nested<'_>,
-        &mut Machine,
-        &mut F,
-        &mut T,
-        &mut Calls,
-    ) -> Result<Outcome, Stop>
-        + Copy,
->(
-    alloc: Global,
-    room: u32,
-    nested: N,
-    args: &[Value],
-    m: &mut Machine,
-    files: &mut F,
-    tables: &mut T,
-    calls: &mut Calls,
-) -> Result<Value, Stop>
-    requires { Nests F.Files T.Tables room (N.pre nested) (N.post nested) }
-    ensures { Does (form.channel_work (evals room) ResponseCode (trees_of args.now)) (world m.old (seen (F.stored files.old) (F.faults files.old) (F.answers files.old)) (seen (T.stored tables.old) (T.faults tables.old) (T.answers tables.old)) calls.old) (on_ok tree_of result) (world m.new (seen (F.stored files.new) (F.faults files.new) (F.answers files.new)) (seen (T.stored tables.new) (T.faults tables.new) (T.answers tables.new)) calls.new) }
-{
-    match args {
-        [n, ..] => set_status(alloc, room, nested, n, m, files, tables, calls),
-        [] => unbuilt(m),
+    N: Fn(Global, u32, Nested<'_>, &mut Run<F, T>) -> Result<Outcome, Stop> + Copy,
+> Sender<'_, F, T, N> {
+    // A status leaves, and the answer is the one that was.
+    fn leave_status(&self, run: &mut Run<F, T>, status: u16, told: LText) -> Result<Value, Stop>
+        requires nests { Nests F.Files T.Tables N.pre N.post self.now.by.now }
+        requires decimal { bytes_of told ≡ decimal status }
+        ensures { Performs F.Files T.Tables (leave_status (means self.now.by.now) status told) run.old (on_ok tree_of result) run.new }
+    {
+        let was = run.machine.stage().status();
+        let context = Value::Arr(context_of(self.by.alloc, b"header")?);
+        let what = Outgoing::Status(status);
+        Writer { by: self.by }.leave(run, &what, &context, told)?;
+        Ok(number(i64::from(was)))
     }
-}
 
-// A header line leaves: the first argument, whether it takes the place of others being the second.
-fn header_work<
-    F: Files,
-    T: Tables,
-    N: Fn(
-        Global,
-        u32,
-        Nested<'_>,
-        &mut Machine,
-        &mut F,
-        &mut T,
-        &mut Calls,
-    ) -> Result<Outcome, Stop>
-        + Copy,
->(
-    alloc: Global,
-    room: u32,
-    nested: N,
-    args: &[Value],
-    m: &mut Machine,
-    files: &mut F,
-    tables: &mut T,
-    calls: &mut Calls,
-) -> Result<Value, Stop>
-    requires { Nests F.Files T.Tables room (N.pre nested) (N.post nested) }
-    ensures { Does (form.channel_work (evals room) Header (trees_of args.now)) (world m.old (seen (F.stored files.old) (F.faults files.old) (F.answers files.old)) (seen (T.stored tables.old) (T.faults tables.old) (T.answers tables.old)) calls.old) (on_ok tree_of result) (world m.new (seen (F.stored files.new) (F.faults files.new) (F.answers files.new)) (seen (T.stored tables.new) (T.faults tables.new) (T.answers tables.new)) calls.new) }
-{
-    let [line, rest @ ..] = args else {
-        return unbuilt(m);
-    };
-    let Value::Text(line) = line else {
-        return unbuilt(m);
-    };
-    let context = Value::Arr(context_of(alloc, b"header")?);
-    let what = Outgoing::Header(flag_in(rest));
-    let line = line.clone()?;
-    leave(
-        alloc, room, nested, &what, &context, line, m, files, tables, calls,
-    )?;
-    Ok(Value::Null)
+    // The status that was, once this one is written.
+    fn set_status(&self, run: &mut Run<F, T>, n: &Value) -> Result<Value, Stop>
+        requires { Nests F.Files T.Tables N.pre N.post self.now.by.now }
+        ensures { Performs F.Files T.Tables (form.set_status (means self.now.by.now) (form.status_of (tree_of n.now)) (tree_of n.now)) run.old (on_ok tree_of result) run.new }
+    {
+        let Some(status) = status_of(n) else {
+            return run.machine.throw(PreludeClass::ValueError, b"");
+        };
+        let told = to_text(self.by.alloc, n);
+        let told = run.machine.settle(told)?;
+        self.leave_status(run, status, told)
+    }
+
+    // A status is set by the first argument.
+    fn status_work(&self, run: &mut Run<F, T>, args: &[Value]) -> Result<Value, Stop>
+        requires { Nests F.Files T.Tables N.pre N.post self.now.by.now }
+        ensures { Performs F.Files T.Tables (form.channel_work (means self.now.by.now) ResponseCode (trees_of args.now)) run.old (on_ok tree_of result) run.new }
+    {
+        match args {
+            [n, ..] => self.set_status(run, n),
+            [] => unbuilt(&run.machine),
+        }
+    }
+
+    // A header line leaves: the first argument, whether it takes the place of others being the second.
+    fn header_work(&self, run: &mut Run<F, T>, args: &[Value]) -> Result<Value, Stop>
+        requires { Nests F.Files T.Tables N.pre N.post self.now.by.now }
+        ensures { Performs F.Files T.Tables (form.channel_work (means self.now.by.now) Header (trees_of args.now)) run.old (on_ok tree_of result) run.new }
+    {
+        let [line, rest @ ..] = args else {
+            return unbuilt(&run.machine);
+        };
+        let Value::Text(line) = line else {
+            return unbuilt(&run.machine);
+        };
+        let context = Value::Arr(context_of(self.by.alloc, b"header")?);
+        let what = Outgoing::Header(flag_in(rest));
+        let line = line.clone()?;
+        Writer { by: self.by }.leave(run, &what, &context, line)?;
+        Ok(Value::Null)
+    }
+
+    // A mail leaves.
+    fn leave_mail(
+        &self,
+        run: &mut Run<F, T>,
+        to: &LText,
+        subject: &LText,
+        message: &LText,
+    ) -> Result<Value, Stop>
+        requires { Nests F.Files T.Tables N.pre N.post self.now.by.now }
+        ensures { Performs F.Files T.Tables (form.channel_work (means self.now.by.now) Mail (text_tree to.now ∷ text_tree subject.now ∷ text_tree message.now ∷ [])) run.old (on_ok tree_of result) run.new }
+    {
+        if !are_one_line(to, subject) {
+            return run.machine.throw(PreludeClass::ValueError, b"");
+        }
+        let context = mail_context(self.by.alloc, to)?;
+        let what = Outgoing::Mail(to.clone()?, subject.clone()?);
+        let text = message.clone()?;
+        Writer { by: self.by }.leave(run, &what, &context, text)?;
+        Ok(Value::Bool(true))
+    }
+
+    // A mail of three texts leaves.
+    fn mail_of(
+        &self,
+        run: &mut Run<F, T>,
+        to: &Value,
+        subject: &Value,
+        message: &Value,
+    ) -> Result<Value, Stop>
+        requires { Nests F.Files T.Tables N.pre N.post self.now.by.now }
+        ensures { Performs F.Files T.Tables (form.channel_work (means self.now.by.now) Mail (tree_of to.now ∷ tree_of subject.now ∷ tree_of message.now ∷ [])) run.old (on_ok tree_of result) run.new }
+    {
+        match to {
+            Value::Text(to) => match subject {
+                Value::Text(subject) => match message {
+                    Value::Text(message) => self.leave_mail(run, to, subject, message),
+                    _ => unbuilt(&run.machine),
+                },
+                _ => unbuilt(&run.machine),
+            },
+            _ => unbuilt(&run.machine),
+        }
+    }
+
+    // A mail leaves: to whom, the subject and the message are the arguments.
+    fn mail_work(&self, run: &mut Run<F, T>, args: &[Value]) -> Result<Value, Stop>
+        requires { Nests F.Files T.Tables N.pre N.post self.now.by.now }
+        ensures { Performs F.Files T.Tables (form.channel_work (means self.now.by.now) Mail (trees_of args.now)) run.old (on_ok tree_of result) run.new }
+    {
+        match args {
+            [to, subject, message, ..] => self.mail_of(run, to, subject, message),
+            _ => unbuilt(&run.machine),
+        }
+    }
+
+    // A buffer that closed goes into the next one, or leaves where there is none.
+    fn flushed(&self, run: &mut Run<F, T>, closed: Option<LText>) -> Result<Value, Stop>
+        requires { Nests F.Files T.Tables N.pre N.post self.now.by.now }
+        ensures { Performs F.Files T.Tables (flushed (means self.now.by.now) closed) run.old (on_ok tree_of result) run.new }
+    {
+        match closed {
+            Some(text) => {
+                Writer { by: self.by }.write_page(run, text)?;
+                Ok(Value::Bool(true))
+            }
+            None => Ok(Value::Bool(false)),
+        }
+    }
+
+    // The work of a call.
+    fn channel_work(
+        &self,
+        run: &mut Run<F, T>,
+        f: ChannelFunction,
+        args: &[Value],
+    ) -> Result<Value, Stop>
+        requires { Nests F.Files T.Tables N.pre N.post self.now.by.now }
+        ensures { Performs F.Files T.Tables (form.channel_work (means self.now.by.now) f (trees_of args.now)) run.old (on_ok tree_of result) run.new }
+    {
+        match f {
+            ChannelFunction::BufferStart => {
+                run.machine.open_buffer()?;
+                Ok(Value::Bool(true))
+            }
+            ChannelFunction::BufferGetClean => Ok(text_or_false(run.machine.close_buffer()?)),
+            ChannelFunction::BufferEndClean => Ok(is_open(run.machine.close_buffer()?)),
+            ChannelFunction::BufferEndFlush => {
+                let closed = run.machine.close_buffer()?;
+                self.flushed(run, closed)
+            }
+            ChannelFunction::Header => self.header_work(run, args),
+            ChannelFunction::ResponseCode => self.status_work(run, args),
+            ChannelFunction::Mail => self.mail_work(run, args),
+            ChannelFunction::FilePutContents => unbuilt(&run.machine),
+            ChannelFunction::FileGetContents => unbuilt(&run.machine),
+            ChannelFunction::Unlink => unbuilt(&run.machine),
+            ChannelFunction::FileExists => unbuilt(&run.machine),
+            ChannelFunction::SqlQuery => unbuilt(&run.machine),
+        }
+    }
+
+    /// A call of a function of a channel.
+    ///
+    /// ChannelInCheck comes first, where a check, a merge or a filter that the runtime called makes the call, unless the function only looks. Then another count of
+    /// arguments throws ArgumentCountError; the arguments are turned into their kinds from the left; the texts among them are charged; then comes the work; and the text that
+    /// it gives is charged. ValueError is thrown for a status that may not be set, for a header line that sets no header, and for a mail whose address or subject has more
+    /// than one line. What leaves asks its filters and its policies, which may throw. UndefinedFunction comes for the functions of files and tables, which aren't built yet.
+    pub fn channel_function(
+        &self,
+        run: &mut Run<F, T>,
+        f: ChannelFunction,
+        args: &Values,
+    ) -> Result<Value, Stop>
+        requires { Nests F.Files T.Tables N.pre N.post self.now.by.now }
+        ensures { Performs F.Files T.Tables (form.channel_function (means self.now.by.now) f (trees_of args.now)) run.old result run.new }
+    {
+        may_run(&run.machine, f)?;
+        if !is_count(f, args.as_slice().len()) {
+            return miscounted(&mut run.machine);
+        }
+        let kinds = channel_kinds(f);
+        let turned = Builtins { by: self.by }.arguments_of(run, kinds, args.as_slice())?;
+        charge_all(&mut run.machine, turned.as_slice())?;
+        let answer = self.channel_work(run, f, turned.as_slice())?;
+        given(&mut run.machine, answer)
+    }
 }
 
 // What the checks of a mail are told.
@@ -222,161 +268,6 @@ fn are_one_line(to: &LText, subject: &LText) -> bool
     ensures { result ≡ (is_one_line to.now && is_one_line subject.now) }
 {
     is_one_line(to) && is_one_line(subject)
-}
-
-// A mail leaves.
-fn leave_mail<
-    F: Files,
-    T: Tables,
-    N: Fn(
-        Global,
-        u32,
-        Nested<'_>,
-        &mut Machine,
-        &mut F,
-        &mut T,
-        &mut Calls,
-    ) -> Result<Outcome, Stop>
-        + Copy,
->(
-    alloc: Global,
-    room: u32,
-    nested: N,
-    to: &LText,
-    subject: &LText,
-    message: &LText,
-    m: &mut Machine,
-    files: &mut F,
-    tables: &mut T,
-    calls: &mut Calls,
-) -> Result<Value, Stop>
-    requires { Nests F.Files T.Tables room (N.pre nested) (N.post nested) }
-    ensures { Does (form.channel_work (evals room) Mail (text_tree to.now ∷ text_tree subject.now ∷ text_tree message.now ∷ [])) (world m.old (seen (F.stored files.old) (F.faults files.old) (F.answers files.old)) (seen (T.stored tables.old) (T.faults tables.old) (T.answers tables.old)) calls.old) (on_ok tree_of result) (world m.new (seen (F.stored files.new) (F.faults files.new) (F.answers files.new)) (seen (T.stored tables.new) (T.faults tables.new) (T.answers tables.new)) calls.new) }
-{
-    if !are_one_line(to, subject) {
-        return m.throw(PreludeClass::ValueError, b"");
-    }
-    let context = mail_context(alloc, to)?;
-    let what = Outgoing::Mail(to.clone()?, subject.clone()?);
-    let text = message.clone()?;
-    leave(
-        alloc, room, nested, &what, &context, text, m, files, tables, calls,
-    )?;
-    Ok(Value::Bool(true))
-}
-
-// A mail of three texts leaves.
-fn mail_of<
-    F: Files,
-    T: Tables,
-    N: Fn(
-        Global,
-        u32,
-        Nested<'_>,
-        &mut Machine,
-        &mut F,
-        &mut T,
-        &mut Calls,
-    ) -> Result<Outcome, Stop>
-        + Copy,
->(
-    alloc: Global,
-    room: u32,
-    nested: N,
-    to: &Value,
-    subject: &Value,
-    message: &Value,
-    m: &mut Machine,
-    files: &mut F,
-    tables: &mut T,
-    calls: &mut Calls,
-) -> Result<Value, Stop>
-    requires { Nests F.Files T.Tables room (N.pre nested) (N.post nested) }
-    ensures { Does (form.channel_work (evals room) Mail (tree_of to.now ∷ tree_of subject.now ∷ tree_of message.now ∷ [])) (world m.old (seen (F.stored files.old) (F.faults files.old) (F.answers files.old)) (seen (T.stored tables.old) (T.faults tables.old) (T.answers tables.old)) calls.old) (on_ok tree_of result) (world m.new (seen (F.stored files.new) (F.faults files.new) (F.answers files.new)) (seen (T.stored tables.new) (T.faults tables.new) (T.answers tables.new)) calls.new) }
-{
-    match to {
-        Value::Text(to) => match subject {
-            Value::Text(subject) => match message {
-                Value::Text(message) => leave_mail(
-                    alloc, room, nested, to, subject, message, m, files, tables, calls,
-                ),
-                _ => unbuilt(m),
-            },
-            _ => unbuilt(m),
-        },
-        _ => unbuilt(m),
-    }
-}
-
-// A mail leaves: to whom, the subject and the message are the arguments.
-fn mail_work<
-    F: Files,
-    T: Tables,
-    N: Fn(
-        Global,
-        u32,
-        Nested<'_>,
-        &mut Machine,
-        &mut F,
-        &mut T,
-        &mut Calls,
-    ) -> Result<Outcome, Stop>
-        + Copy,
->(
-    alloc: Global,
-    room: u32,
-    nested: N,
-    args: &[Value],
-    m: &mut Machine,
-    files: &mut F,
-    tables: &mut T,
-    calls: &mut Calls,
-) -> Result<Value, Stop>
-    requires { Nests F.Files T.Tables room (N.pre nested) (N.post nested) }
-    ensures { Does (form.channel_work (evals room) Mail (trees_of args.now)) (world m.old (seen (F.stored files.old) (F.faults files.old) (F.answers files.old)) (seen (T.stored tables.old) (T.faults tables.old) (T.answers tables.old)) calls.old) (on_ok tree_of result) (world m.new (seen (F.stored files.new) (F.faults files.new) (F.answers files.new)) (seen (T.stored tables.new) (T.faults tables.new) (T.answers tables.new)) calls.new) }
-{
-    match args {
-        [to, subject, message, ..] => mail_of(
-            alloc, room, nested, to, subject, message, m, files, tables, calls,
-        ),
-        _ => unbuilt(m),
-    }
-}
-
-// A buffer that closed goes into the next one, or leaves where there is none.
-fn flushed<
-    F: Files,
-    T: Tables,
-    N: Fn(
-        Global,
-        u32,
-        Nested<'_>,
-        &mut Machine,
-        &mut F,
-        &mut T,
-        &mut Calls,
-    ) -> Result<Outcome, Stop>
-        + Copy,
->(
-    alloc: Global,
-    room: u32,
-    nested: N,
-    closed: Option<LText>,
-    m: &mut Machine,
-    files: &mut F,
-    tables: &mut T,
-    calls: &mut Calls,
-) -> Result<Value, Stop>
-    requires { Nests F.Files T.Tables room (N.pre nested) (N.post nested) }
-    ensures { Does (flushed (evals room) closed) (world m.old (seen (F.stored files.old) (F.faults files.old) (F.answers files.old)) (seen (T.stored tables.old) (T.faults tables.old) (T.answers tables.old)) calls.old) (on_ok tree_of result) (world m.new (seen (F.stored files.new) (F.faults files.new) (F.answers files.new)) (seen (T.stored tables.new) (T.faults tables.new) (T.answers tables.new)) calls.new) }
-{
-    match closed {
-        Some(text) => {
-            write_page(alloc, room, nested, text, m, files, tables, calls)?;
-            Ok(Value::Bool(true))
-        }
-        None => Ok(Value::Bool(false)),
-    }
 }
 
 // The text of a buffer that closed, or false.
@@ -399,58 +290,6 @@ fn is_open(closed: Option<LText>) -> Value
     }
 }
 
-// The work of a call.
-fn channel_work<
-    F: Files,
-    T: Tables,
-    N: Fn(
-        Global,
-        u32,
-        Nested<'_>,
-        &mut Machine,
-        &mut F,
-        &mut T,
-        &mut Calls,
-    ) -> Result<Outcome, Stop>
-        + Copy,
->(
-    alloc: Global,
-    room: u32,
-    nested: N,
-    f: ChannelFunction,
-    args: &[Value],
-    m: &mut Machine,
-    files: &mut F,
-    tables: &mut T,
-    calls: &mut Calls,
-) -> Result<Value, Stop>
-    requires { Nests F.Files T.Tables room (N.pre nested) (N.post nested) }
-    ensures { Does (form.channel_work (evals room) f (trees_of args.now)) (world m.old (seen (F.stored files.old) (F.faults files.old) (F.answers files.old)) (seen (T.stored tables.old) (T.faults tables.old) (T.answers tables.old)) calls.old) (on_ok tree_of result) (world m.new (seen (F.stored files.new) (F.faults files.new) (F.answers files.new)) (seen (T.stored tables.new) (T.faults tables.new) (T.answers tables.new)) calls.new) }
-{
-    match f {
-        ChannelFunction::BufferStart => {
-            m.open_buffer()?;
-            Ok(Value::Bool(true))
-        }
-        ChannelFunction::BufferGetClean => Ok(text_or_false(m.close_buffer()?)),
-        ChannelFunction::BufferEndClean => Ok(is_open(m.close_buffer()?)),
-        ChannelFunction::BufferEndFlush => {
-            let closed = m.close_buffer()?;
-            flushed(alloc, room, nested, closed, m, files, tables, calls)
-        }
-        ChannelFunction::Header => header_work(alloc, room, nested, args, m, files, tables, calls),
-        ChannelFunction::ResponseCode => status_work(
-            alloc, room, nested, args, m, files, tables, calls,
-        ),
-        ChannelFunction::Mail => mail_work(alloc, room, nested, args, m, files, tables, calls),
-        ChannelFunction::FilePutContents => unbuilt(m),
-        ChannelFunction::FileGetContents => unbuilt(m),
-        ChannelFunction::Unlink => unbuilt(m),
-        ChannelFunction::FileExists => unbuilt(m),
-        ChannelFunction::SqlQuery => unbuilt(m),
-    }
-}
-
 // A check may make the call only where it looks.
 fn may_run(m: &Machine, f: ChannelFunction) -> Result<(), Stop>
     ensures { Runs (if only_looks f then give tt else act awake) m.now result m.now }
@@ -466,68 +305,4 @@ fn is_count(f: ChannelFunction, count: usize) -> bool
     ensures { result ≡ is_count f count }
 {
     needed(f) <= count && count <= channel_kinds(f).len()
-}
-
-/// A call of a function of a channel.
-///
-/// ChannelInCheck comes first, where a check, a merge or a filter that the runtime called makes the call, unless the function only looks. Then another count of
-/// arguments throws ArgumentCountError; the arguments are turned into their kinds from the left; the texts among them are charged; then comes the work; and the text that
-/// it gives is charged. ValueError is thrown for a status that may not be set, for a header line that sets no header, and for a mail whose address or subject has more
-/// than one line. What leaves asks its filters and its policies, which may throw. UndefinedFunction comes for the functions of files and tables, which aren't built yet.
-pub fn channel_function<
-    F: Files,
-    T: Tables,
-    N: Fn(
-        Global,
-        u32,
-        Nested<'_>,
-        &mut Machine,
-        &mut F,
-        &mut T,
-        &mut Calls,
-    ) -> Result<Outcome, Stop>
-        + Copy,
->(
-    alloc: Global,
-    room: u32,
-    nested: N,
-    f: ChannelFunction,
-    args: &Values,
-    m: &mut Machine,
-    files: &mut F,
-    tables: &mut T,
-    calls: &mut Calls,
-) -> Result<Value, Stop>
-    requires { Nests F.Files T.Tables room (N.pre nested) (N.post nested) }
-    ensures { Does (form.channel_function (evals room) f (trees_of args.now)) (world m.old (seen (F.stored files.old) (F.faults files.old) (F.answers files.old)) (seen (T.stored tables.old) (T.faults tables.old) (T.answers tables.old)) calls.old) result (world m.new (seen (F.stored files.new) (F.faults files.new) (F.answers files.new)) (seen (T.stored tables.new) (T.faults tables.new) (T.answers tables.new)) calls.new) }
-{
-    may_run(m, f)?;
-    if !is_count(f, args.as_slice().len()) {
-        return miscounted(m);
-    }
-    let kinds = channel_kinds(f);
-    let turned = arguments_of(
-        alloc,
-        room,
-        nested,
-        kinds,
-        args.as_slice(),
-        m,
-        files,
-        tables,
-        calls,
-    )?;
-    charge_all(m, turned.as_slice())?;
-    let answer = channel_work(
-        alloc,
-        room,
-        nested,
-        f,
-        turned.as_slice(),
-        m,
-        files,
-        tables,
-        calls,
-    )?;
-    given(m, answer)
 }

@@ -1,31 +1,33 @@
 //! Evaluation, by walking the tree. `room` is how many more evaluations may be open. What nests in an evaluation is evaluated by a function value, so that each form
 //! is proved on its own; `evaluation` alone recurs, by giving itself, with less room each time.
-ghost use Rattle.resin_invoke.specs.Nested.{Ends, Nests};
 ghost use Rattle.resin_evaluation.specs.Expressions.{item_key, items, turned_key};
+ghost use Rattle.resin_evaluation.specs.Forms as form;
+ghost use Rattle.resin_evaluation.specs.Programs.{evals};
 ghost use Rattle.resin_evaluation.specs.Runs.{Runs};
+ghost use Rattle.resin_invoke.specs.Nested.{Ends, Nests, means};
+ghost use Rattle.resin_invoke.specs.Running.{Performs, at};
 ghost use Rattle.resin_value.specs.Changes.{empty};
 ghost use Rattle.resin_value.specs.Keys.{is_lawful};
 ghost use Rattle.std.specs.Prelude.{◌<◌, IfOk, IfSome, IsTrue, OnOk, suc};
-ghost use Rattle.resin_program.specs.Runs.{Does, seen, world};
-ghost use Rattle.resin_evaluation.specs.Programs.{evals};
-ghost use Rattle.resin_evaluation.specs.Forms as form;
 
-use resin_assign::assign::assignment;
-use resin_base::{Calls, Files, Tables};
-use resin_calls::calls::called;
+use resin_assign::assign::Assigner;
+use resin_base::{Files, Tables};
+use resin_calls::calls::Caller;
 use resin_evaluation::Course;
-use resin_invoke::nested::{Nested, Outcome, expr, soft, values};
+use resin_invoke::nested::{Evaluator, Nested, Outcome};
+use resin_invoke::run::Run;
 use resin_items::Boxed;
 use resin_machine::{Machine, Stop};
-use resin_merges::merges::{combined, unary};
+use resin_merges::merges::Merger;
 use resin_runtime::values::texts_joined;
 use resin_scalar::ScriptFault;
-use resin_statements::forms::statement;
+use resin_statements::forms::Statements;
 use resin_steps::operators::{charge_all, compared, given, instance_of};
 use resin_steps::reads::{index_of, is_nothing, keyed, literal_value, property_of, with_entry};
 use resin_tree::{Access, ArrayItem, Expr, Operation, Stmt, Test};
 use resin_value::{Arr, Key, Value};
 use std::alloc::Global;
+use std::marker::PhantomData;
 
 /// Evaluates an expression or a statement where `room` more evaluations may be open. It takes one of them and a tick, and gives itself to what nests further in. DepthSpent
 /// comes exactly where none is left; else it stops as what it evaluates does: by an exception, `exit`, a script fault with its line, a keeper call that failed, or want of
@@ -34,247 +36,289 @@ pub fn evaluation<F: Files, T: Tables>(
     alloc: Global,
     room: u32,
     what: Nested<'_>,
-    m: &mut Machine,
-    files: &mut F,
-    tables: &mut T,
-    calls: &mut Calls,
+    run: &mut Run<F, T>,
 ) -> Result<Outcome, Stop>
-    ensures { Ends room what.entry (world m.old (seen (F.stored files.old) (F.faults files.old) (F.answers files.old)) (seen (T.stored tables.old) (T.faults tables.old) (T.answers tables.old)) calls.old) result (world m.new (seen (F.stored files.new) (F.faults files.new) (F.answers files.new)) (seen (T.stored tables.new) (T.faults tables.new) (T.answers tables.new)) calls.new) }
+    ensures { Ends room what.entry (at F.Files T.Tables run.old) result (at F.Files T.Tables run.new) }
 {
     if room == 0 {
-        return Err(m.fault(ScriptFault::DepthSpent));
+        return Err(run.machine.fault(ScriptFault::DepthSpent));
     }
-    let room = room - 1;
+    let evaluator = Evaluator {
+        alloc,
+        room: room - 1,
+        nested: evaluation::<F, T>,
+        of: PhantomData,
+    };
+    let interpreter = Interpreter { by: &evaluator };
     match what {
         Nested::Value(e) => {
-            let v = expr_by(alloc, room, evaluation::<F, T>, e, m, files, tables, calls)?;
+            let v = interpreter.expr_by(run, e)?;
             Ok(Outcome::Value(v))
         }
         Nested::Asked(e) => {
-            let v = soft_by(alloc, room, evaluation::<F, T>, e, m, files, tables, calls)?;
+            let v = interpreter.soft_by(run, e)?;
             Ok(Outcome::Value(v))
         }
         Nested::Statement(s) => {
-            let course = stmt_by(alloc, room, evaluation::<F, T>, s, m, files, tables, calls)?;
+            let course = interpreter.stmt_by(run, s)?;
             Ok(Outcome::Course(course))
         }
     }
 }
 
-/// The value of an expression, in which `room` more evaluations may be open. It stops as `evaluation` does.
-pub fn expr_by<
-    F: Files,
-    T: Tables,
-    N: Fn(
-        Global,
-        u32,
-        Nested<'_>,
-        &mut Machine,
-        &mut F,
-        &mut T,
-        &mut Calls,
-    ) -> Result<Outcome, Stop>
-        + Copy,
->(
-    alloc: Global,
-    room: u32,
-    nested: N,
-    e: &Expr,
-    m: &mut Machine,
-    files: &mut F,
-    tables: &mut T,
-    calls: &mut Calls,
-) -> Result<Value, Stop>
-    requires { Nests F.Files T.Tables room (N.pre nested) (N.post nested) }
-    ensures does { Does ((evals (suc room)).expr e.now) (world m.old (seen (F.stored files.old) (F.faults files.old) (F.answers files.old)) (seen (T.stored tables.old) (T.faults tables.old) (T.answers tables.old)) calls.old) result (world m.new (seen (F.stored files.new) (F.faults files.new) (F.answers files.new)) (seen (T.stored tables.new) (T.faults tables.new) (T.answers tables.new)) calls.new) }
-    ensures spent { OnOk result (m.new.ticks < m.old.ticks) }
-{
-    m.charge(1)?;
-    expression(alloc, room, nested, e, m, files, tables, calls)
+/// Expressions and statements by their forms, by an evaluator.
+#[derive(Drop)]
+pub struct Interpreter<'e, F, T, N> {
+    pub by: &'e Evaluator<F, T, N>,
 }
 
-/// The value of an expression that is only asked for, as `isset` asks, in which `room` more evaluations may be open: what isn't there is null. It stops as `evaluation` does.
-pub fn soft_by<
+impl<
     F: Files,
     T: Tables,
-    N: Fn(
-        Global,
-        u32,
-        Nested<'_>,
-        &mut Machine,
-        &mut F,
-        &mut T,
-        &mut Calls,
-    ) -> Result<Outcome, Stop>
-        + Copy,
->(
-    alloc: Global,
-    room: u32,
-    nested: N,
-    e: &Expr,
-    m: &mut Machine,
-    files: &mut F,
-    tables: &mut T,
-    calls: &mut Calls,
-) -> Result<Value, Stop>
-    requires { Nests F.Files T.Tables room (N.pre nested) (N.post nested) }
-    ensures { Does ((evals (suc room)).soft e.now) (world m.old (seen (F.stored files.old) (F.faults files.old) (F.answers files.old)) (seen (T.stored tables.old) (T.faults tables.old) (T.answers tables.old)) calls.old) result (world m.new (seen (F.stored files.new) (F.faults files.new) (F.answers files.new)) (seen (T.stored tables.new) (T.faults tables.new) (T.answers tables.new)) calls.new) }
-{
-    m.charge(1)?;
-    match e {
-        Expr::Access(a) => soft_access(alloc, room, nested, a, m, files, tables, calls),
-        _ => expression(alloc, room, nested, e, m, files, tables, calls),
+    N: Fn(Global, u32, Nested<'_>, &mut Run<F, T>) -> Result<Outcome, Stop> + Copy,
+> Interpreter<'_, F, T, N> {
+    /// The value of an expression, in which `room` more evaluations may be open. It stops as `evaluation` does.
+    pub fn expr_by(&self, run: &mut Run<F, T>, e: &Expr) -> Result<Value, Stop>
+        requires { Nests F.Files T.Tables N.pre N.post self.now.by.now }
+        ensures does { Performs F.Files T.Tables ((evals (suc self.now.by.now.room)).expr e.now) run.old result run.new }
+        ensures spent { OnOk result (run.new.machine.ticks < run.old.machine.ticks) }
+    {
+        run.machine.charge(1)?;
+        self.expression(run, e)
     }
-}
 
-/// A statement, at its own line, in which `room` more evaluations may be open; then the line is what it was. It stops as `evaluation` does.
-pub fn stmt_by<
-    F: Files,
-    T: Tables,
-    N: Fn(
-        Global,
-        u32,
-        Nested<'_>,
-        &mut Machine,
-        &mut F,
-        &mut T,
-        &mut Calls,
-    ) -> Result<Outcome, Stop>
-        + Copy,
->(
-    alloc: Global,
-    room: u32,
-    nested: N,
-    s: &Stmt,
-    m: &mut Machine,
-    files: &mut F,
-    tables: &mut T,
-    calls: &mut Calls,
-) -> Result<Course, Stop>
-    requires { Nests F.Files T.Tables room (N.pre nested) (N.post nested) }
-    ensures does { Does ((evals (suc room)).stmt s.now) (world m.old (seen (F.stored files.old) (F.faults files.old) (F.answers files.old)) (seen (T.stored tables.old) (T.faults tables.old) (T.answers tables.old)) calls.old) result (world m.new (seen (F.stored files.new) (F.faults files.new) (F.answers files.new)) (seen (T.stored tables.new) (T.faults tables.new) (T.answers tables.new)) calls.new) }
-    ensures spent { OnOk result (m.new.ticks < m.old.ticks) }
-{
-    let was = m.set_line(s.line);
-    let end = ticked(alloc, room, nested, s, m, files, tables, calls);
-    let _own = m.set_line(was);
-    end
-}
-
-// A statement with its tick.
-fn ticked<
-    F: Files,
-    T: Tables,
-    N: Fn(
-        Global,
-        u32,
-        Nested<'_>,
-        &mut Machine,
-        &mut F,
-        &mut T,
-        &mut Calls,
-    ) -> Result<Outcome, Stop>
-        + Copy,
->(
-    alloc: Global,
-    room: u32,
-    nested: N,
-    s: &Stmt,
-    m: &mut Machine,
-    files: &mut F,
-    tables: &mut T,
-    calls: &mut Calls,
-) -> Result<Course, Stop>
-    requires { Nests F.Files T.Tables room (N.pre nested) (N.post nested) }
-    ensures does { Does (form.ticked_form (evals room) s.now.kind) (world m.old (seen (F.stored files.old) (F.faults files.old) (F.answers files.old)) (seen (T.stored tables.old) (T.faults tables.old) (T.answers tables.old)) calls.old) result (world m.new (seen (F.stored files.new) (F.faults files.new) (F.answers files.new)) (seen (T.stored tables.new) (T.faults tables.new) (T.answers tables.new)) calls.new) }
-    ensures spent { OnOk result (m.new.ticks < m.old.ticks) }
-{
-    m.charge(1)?;
-    statement(alloc, room, nested, &s.kind, m, files, tables, calls)
-}
-
-// An expression by its form.
-fn expression<
-    F: Files,
-    T: Tables,
-    N: Fn(
-        Global,
-        u32,
-        Nested<'_>,
-        &mut Machine,
-        &mut F,
-        &mut T,
-        &mut Calls,
-    ) -> Result<Outcome, Stop>
-        + Copy,
->(
-    alloc: Global,
-    room: u32,
-    nested: N,
-    e: &Expr,
-    m: &mut Machine,
-    files: &mut F,
-    tables: &mut T,
-    calls: &mut Calls,
-) -> Result<Value, Stop>
-    requires { Nests F.Files T.Tables room (N.pre nested) (N.post nested) }
-    ensures { Does (form.expr_form (evals room) e.now) (world m.old (seen (F.stored files.old) (F.faults files.old) (F.answers files.old)) (seen (T.stored tables.old) (T.faults tables.old) (T.answers tables.old)) calls.old) result (world m.new (seen (F.stored files.new) (F.faults files.new) (F.answers files.new)) (seen (T.stored tables.new) (T.faults tables.new) (T.answers tables.new)) calls.new) }
-{
-    match e {
-        Expr::Literal(l) => Ok(literal_value(alloc, l)?),
-        Expr::Variable(x) => m.read(x.as_slice()),
-        Expr::Array(is) => array(alloc, room, nested, is.as_slice(), m, files, tables, calls),
-        Expr::Join(es) => interpolation(
-            alloc,
-            room,
-            nested,
-            es.as_slice(),
-            m,
-            files,
-            tables,
-            calls,
-        ),
-        Expr::Access(a) => access(alloc, room, nested, a, m, files, tables, calls),
-        Expr::Operation(o) => operation(alloc, room, nested, o, m, files, tables, calls),
-        Expr::Test(t) => test(alloc, room, nested, t, m, files, tables, calls),
-        Expr::Assignment(a) => assignment(alloc, room, nested, a, m, files, tables, calls),
-        Expr::Call(c) => called(alloc, room, nested, c, m, files, tables, calls),
-    }
-}
-
-// The key of an item of an array, where it has one.
-fn item_key<
-    F: Files,
-    T: Tables,
-    N: Fn(
-        Global,
-        u32,
-        Nested<'_>,
-        &mut Machine,
-        &mut F,
-        &mut T,
-        &mut Calls,
-    ) -> Result<Outcome, Stop>
-        + Copy,
->(
-    alloc: Global,
-    room: u32,
-    nested: N,
-    key: &Option<Boxed<Expr>>,
-    m: &mut Machine,
-    files: &mut F,
-    tables: &mut T,
-    calls: &mut Calls,
-) -> Result<Option<Value>, Stop>
-    requires { Nests F.Files T.Tables room (N.pre nested) (N.post nested) }
-    ensures { Does (item_key (evals room) key.now) (world m.old (seen (F.stored files.old) (F.faults files.old) (F.answers files.old)) (seen (T.stored tables.old) (T.faults tables.old) (T.answers tables.old)) calls.old) result (world m.new (seen (F.stored files.new) (F.faults files.new) (F.answers files.new)) (seen (T.stored tables.new) (T.faults tables.new) (T.answers tables.new)) calls.new) }
-{
-    match key {
-        Some(e) => {
-            let k = expr(alloc, room, nested, e.get(), m, files, tables, calls)?;
-            Ok(Some(k))
+    /// The value of an expression that is only asked for, as `isset` asks, in which `room` more evaluations may be open: what isn't there is null. It stops as `evaluation` does.
+    pub fn soft_by(&self, run: &mut Run<F, T>, e: &Expr) -> Result<Value, Stop>
+        requires { Nests F.Files T.Tables N.pre N.post self.now.by.now }
+        ensures { Performs F.Files T.Tables ((evals (suc self.now.by.now.room)).soft e.now) run.old result run.new }
+    {
+        run.machine.charge(1)?;
+        match e {
+            Expr::Access(a) => self.soft_access(run, a),
+            _ => self.expression(run, e),
         }
-        None => Ok(None),
+    }
+
+    /// A statement, at its own line, in which `room` more evaluations may be open; then the line is what it was. It stops as `evaluation` does.
+    pub fn stmt_by(&self, run: &mut Run<F, T>, s: &Stmt) -> Result<Course, Stop>
+        requires { Nests F.Files T.Tables N.pre N.post self.now.by.now }
+        ensures does { Performs F.Files T.Tables ((evals (suc self.now.by.now.room)).stmt s.now) run.old result run.new }
+        ensures spent { OnOk result (run.new.machine.ticks < run.old.machine.ticks) }
+    {
+        let was = run.machine.set_line(s.line);
+        let end = self.ticked(run, s);
+        let _own = run.machine.set_line(was);
+        end
+    }
+
+    // A statement with its tick.
+    fn ticked(&self, run: &mut Run<F, T>, s: &Stmt) -> Result<Course, Stop>
+        requires { Nests F.Files T.Tables N.pre N.post self.now.by.now }
+        ensures does { Performs F.Files T.Tables (form.ticked_form (means self.now.by.now) s.now.kind) run.old result run.new }
+        ensures spent { OnOk result (run.new.machine.ticks < run.old.machine.ticks) }
+    {
+        run.machine.charge(1)?;
+        Statements { by: self.by }.statement(run, &s.kind)
+    }
+
+    // An expression by its form.
+    fn expression(&self, run: &mut Run<F, T>, e: &Expr) -> Result<Value, Stop>
+        requires { Nests F.Files T.Tables N.pre N.post self.now.by.now }
+        ensures { Performs F.Files T.Tables (form.expr_form (means self.now.by.now) e.now) run.old result run.new }
+    {
+        match e {
+            Expr::Literal(l) => Ok(literal_value(self.by.alloc, l)?),
+            Expr::Variable(x) => run.machine.read(x.as_slice()),
+            Expr::Array(is) => self.array(run, is.as_slice()),
+            Expr::Join(es) => self.interpolation(run, es.as_slice()),
+            Expr::Access(a) => self.access(run, a),
+            Expr::Operation(o) => self.operation(run, o),
+            Expr::Test(t) => self.test(run, t),
+            Expr::Assignment(a) => Assigner { by: self.by }.assignment(run, a),
+            Expr::Call(c) => Caller { by: self.by }.called(run, c),
+        }
+    }
+
+    // The key of an item of an array, where it has one.
+    fn item_key(
+        &self,
+        run: &mut Run<F, T>,
+        key: &Option<Boxed<Expr>>,
+    ) -> Result<Option<Value>, Stop>
+        requires { Nests F.Files T.Tables N.pre N.post self.now.by.now }
+        ensures { Performs F.Files T.Tables (item_key (means self.now.by.now) key.now) run.old result run.new }
+    {
+        match key {
+            Some(e) => {
+                let k = self.by.expr(run, e.get())?;
+                Ok(Some(k))
+            }
+            None => Ok(None),
+        }
+    }
+
+    // The items of an array, one after the other.
+    fn items(&self, run: &mut Run<F, T>, is: &[ArrayItem]) -> Result<Arr, Stop>
+        requires { Nests F.Files T.Tables N.pre N.post self.now.by.now }
+        ensures { Performs F.Files T.Tables (items (means self.now.by.now) empty is.now) run.old result run.new }
+    {
+        let mut a = Arr::new(self.by.alloc)?;
+        for i in is {
+            let k = self.item_key(run, &i.key)?;
+            let v = self.by.expr(run, i.value.get())?;
+            let key = turned_key(self.by.alloc, &mut run.machine, &k)?;
+            let put = with_entry(a, &key, v);
+            a = run.machine.settle(put)?;
+        }
+        Ok(a)
+    }
+
+    // An array by its items.
+    fn array(&self, run: &mut Run<F, T>, is: &[ArrayItem]) -> Result<Value, Stop>
+        requires { Nests F.Files T.Tables N.pre N.post self.now.by.now }
+        ensures { Performs F.Files T.Tables (form.array_form (means self.now.by.now) is.now) run.old result run.new }
+    {
+        let a = self.items(run, is)?;
+        Ok(Value::Arr(a))
+    }
+
+    // A text with interpolation.
+    fn interpolation(&self, run: &mut Run<F, T>, es: &[Expr]) -> Result<Value, Stop>
+        requires { Nests F.Files T.Tables N.pre N.post self.now.by.now }
+        ensures { Performs F.Files T.Tables (form.interpolated (means self.now.by.now) es.now) run.old result run.new }
+    {
+        let vs = self.by.values(run, es)?;
+        charge_all(&mut run.machine, vs.as_slice())?;
+        let text = texts_joined(self.by.alloc, &mut run.machine, vs.as_slice())?;
+        given(&mut run.machine, Value::Text(text))
+    }
+
+    // A part of a value.
+    fn access(&self, run: &mut Run<F, T>, a: &Access) -> Result<Value, Stop>
+        requires { Nests F.Files T.Tables N.pre N.post self.now.by.now }
+        ensures { Performs F.Files T.Tables (form.access_form (means self.now.by.now) a.now) run.old result run.new }
+    {
+        match a {
+            Access::Index(b, e) => {
+                let v = self.by.expr(run, b.get())?;
+                let k = self.by.expr(run, e.get())?;
+                index_of(self.by.alloc, &mut run.machine, false, &v, &k)
+            }
+            Access::Property(b, p) => {
+                let v = self.by.expr(run, b.get())?;
+                Ok(property_of(&run.machine, &v, p.as_slice())?)
+            }
+        }
+    }
+
+    // The same where it is only asked for.
+    fn soft_access(&self, run: &mut Run<F, T>, a: &Access) -> Result<Value, Stop>
+        requires { Nests F.Files T.Tables N.pre N.post self.now.by.now }
+        ensures { Performs F.Files T.Tables (form.soft_access_form (means self.now.by.now) a.now) run.old result run.new }
+    {
+        match a {
+            Access::Index(b, e) => {
+                let v = self.by.soft(run, b.get())?;
+                let k = self.by.expr(run, e.get())?;
+                index_of(self.by.alloc, &mut run.machine, true, &v, &k)
+            }
+            Access::Property(b, p) => {
+                let v = self.by.soft(run, b.get())?;
+                Ok(property_of(&run.machine, &v, p.as_slice())?)
+            }
+        }
+    }
+
+    // Operators that evaluate all their operands.
+    fn operation(&self, run: &mut Run<F, T>, o: &Operation) -> Result<Value, Stop>
+        requires { Nests F.Files T.Tables N.pre N.post self.now.by.now }
+        ensures { Performs F.Files T.Tables (form.operation_form (means self.now.by.now) o.now) run.old result run.new }
+    {
+        match o {
+            Operation::Unary(op, a) => {
+                let x = self.by.expr(run, a.get())?;
+                Merger { by: self.by }.unary(run, *op, &x)
+            }
+            Operation::Combine(op, a, b) => {
+                let x = self.by.expr(run, a.get())?;
+                let y = self.by.expr(run, b.get())?;
+                Merger { by: self.by }.combined(run, *op, &x, &y)
+            }
+            Operation::Compare(op, a, b) => {
+                let x = self.by.expr(run, a.get())?;
+                let y = self.by.expr(run, b.get())?;
+                compared(&mut run.machine, *op, &x, &y)
+            }
+            Operation::InstanceOf(a, c) => {
+                let x = self.by.expr(run, a.get())?;
+                instance_of(&mut run.machine, c.as_slice(), &x)
+            }
+        }
+    }
+
+    // Operators that may leave an operand out, and questions.
+    fn test(&self, run: &mut Run<F, T>, t: &Test) -> Result<Value, Stop>
+        requires { Nests F.Files T.Tables N.pre N.post self.now.by.now }
+        ensures { Performs F.Files T.Tables (form.test_form (means self.now.by.now) t.now) run.old result run.new }
+    {
+        match t {
+            Test::And(a, b) => {
+                let x = self.by.expr(run, a.get())?;
+                if !x.truth() {
+                    return Ok(Value::Bool(false));
+                }
+                let y = self.by.expr(run, b.get())?;
+                Ok(Value::Bool(y.truth()))
+            }
+            Test::Or(a, b) => {
+                let x = self.by.expr(run, a.get())?;
+                if x.truth() {
+                    return Ok(Value::Bool(true));
+                }
+                let y = self.by.expr(run, b.get())?;
+                Ok(Value::Bool(y.truth()))
+            }
+            Test::Coalesce(a, b) => {
+                let x = self.by.soft(run, a.get())?;
+                if is_nothing(&x) {
+                    return self.by.expr(run, b.get());
+                }
+                Ok(x)
+            }
+            Test::Choice(c, a, b) => {
+                let x = self.by.expr(run, c.get())?;
+                if x.truth() {
+                    return self.by.expr(run, a.get());
+                }
+                self.by.expr(run, b.get())
+            }
+            Test::Either(c, b) => {
+                let x = self.by.expr(run, c.get())?;
+                if x.truth() {
+                    return Ok(x);
+                }
+                self.by.expr(run, b.get())
+            }
+            Test::Isset(es) => self.all_set(run, es.as_slice()),
+            Test::Empty(e) => {
+                let x = self.by.soft(run, e.get())?;
+                Ok(Value::Bool(!x.truth()))
+            }
+        }
+    }
+
+    // Whether no operand of `isset` is null.
+    fn all_set(&self, run: &mut Run<F, T>, es: &[Expr]) -> Result<Value, Stop>
+        requires { Nests F.Files T.Tables N.pre N.post self.now.by.now }
+        ensures { Performs F.Files T.Tables (form.all_set (means self.now.by.now) es.now) run.old result run.new }
+    {
+        for e in es {
+            let v = self.by.soft(run, e)?;
+            if is_nothing(&v) {
+                return Ok(Value::Bool(false));
+            }
+        }
+        Ok(Value::Bool(true))
     }
 }
 
@@ -290,344 +334,4 @@ fn turned_key(alloc: Global, m: &mut Machine, k: &Option<Value>) -> Result<Optio
         }
         None => Ok(None),
     }
-}
-
-// The items of an array, one after the other.
-fn items<
-    F: Files,
-    T: Tables,
-    N: Fn(
-        Global,
-        u32,
-        Nested<'_>,
-        &mut Machine,
-        &mut F,
-        &mut T,
-        &mut Calls,
-    ) -> Result<Outcome, Stop>
-        + Copy,
->(
-    alloc: Global,
-    room: u32,
-    nested: N,
-    is: &[ArrayItem],
-    m: &mut Machine,
-    files: &mut F,
-    tables: &mut T,
-    calls: &mut Calls,
-) -> Result<Arr, Stop>
-    requires { Nests F.Files T.Tables room (N.pre nested) (N.post nested) }
-    ensures { Does (items (evals room) empty is.now) (world m.old (seen (F.stored files.old) (F.faults files.old) (F.answers files.old)) (seen (T.stored tables.old) (T.faults tables.old) (T.answers tables.old)) calls.old) result (world m.new (seen (F.stored files.new) (F.faults files.new) (F.answers files.new)) (seen (T.stored tables.new) (T.faults tables.new) (T.answers tables.new)) calls.new) }
-{
-    let mut a = Arr::new(alloc)?;
-    for i in is {
-        let k = item_key(alloc, room, nested, &i.key, m, files, tables, calls)?;
-        let v = expr(alloc, room, nested, i.value.get(), m, files, tables, calls)?;
-        let key = turned_key(alloc, m, &k)?;
-        let put = with_entry(a, &key, v);
-        a = m.settle(put)?;
-    }
-    Ok(a)
-}
-
-// An array by its items.
-fn array<
-    F: Files,
-    T: Tables,
-    N: Fn(
-        Global,
-        u32,
-        Nested<'_>,
-        &mut Machine,
-        &mut F,
-        &mut T,
-        &mut Calls,
-    ) -> Result<Outcome, Stop>
-        + Copy,
->(
-    alloc: Global,
-    room: u32,
-    nested: N,
-    is: &[ArrayItem],
-    m: &mut Machine,
-    files: &mut F,
-    tables: &mut T,
-    calls: &mut Calls,
-) -> Result<Value, Stop>
-    requires { Nests F.Files T.Tables room (N.pre nested) (N.post nested) }
-    ensures { Does (form.array_form (evals room) is.now) (world m.old (seen (F.stored files.old) (F.faults files.old) (F.answers files.old)) (seen (T.stored tables.old) (T.faults tables.old) (T.answers tables.old)) calls.old) result (world m.new (seen (F.stored files.new) (F.faults files.new) (F.answers files.new)) (seen (T.stored tables.new) (T.faults tables.new) (T.answers tables.new)) calls.new) }
-{
-    let a = items(alloc, room, nested, is, m, files, tables, calls)?;
-    Ok(Value::Arr(a))
-}
-
-// A text with interpolation.
-fn interpolation<
-    F: Files,
-    T: Tables,
-    N: Fn(
-        Global,
-        u32,
-        Nested<'_>,
-        &mut Machine,
-        &mut F,
-        &mut T,
-        &mut Calls,
-    ) -> Result<Outcome, Stop>
-        + Copy,
->(
-    alloc: Global,
-    room: u32,
-    nested: N,
-    es: &[Expr],
-    m: &mut Machine,
-    files: &mut F,
-    tables: &mut T,
-    calls: &mut Calls,
-) -> Result<Value, Stop>
-    requires { Nests F.Files T.Tables room (N.pre nested) (N.post nested) }
-    ensures { Does (form.interpolated (evals room) es.now) (world m.old (seen (F.stored files.old) (F.faults files.old) (F.answers files.old)) (seen (T.stored tables.old) (T.faults tables.old) (T.answers tables.old)) calls.old) result (world m.new (seen (F.stored files.new) (F.faults files.new) (F.answers files.new)) (seen (T.stored tables.new) (T.faults tables.new) (T.answers tables.new)) calls.new) }
-{
-    let vs = values(alloc, room, nested, es, m, files, tables, calls)?;
-    charge_all(m, vs.as_slice())?;
-    let text = texts_joined(alloc, m, vs.as_slice())?;
-    given(m, Value::Text(text))
-}
-
-// A part of a value.
-fn access<
-    F: Files,
-    T: Tables,
-    N: Fn(
-        Global,
-        u32,
-        Nested<'_>,
-        &mut Machine,
-        &mut F,
-        &mut T,
-        &mut Calls,
-    ) -> Result<Outcome, Stop>
-        + Copy,
->(
-    alloc: Global,
-    room: u32,
-    nested: N,
-    a: &Access,
-    m: &mut Machine,
-    files: &mut F,
-    tables: &mut T,
-    calls: &mut Calls,
-) -> Result<Value, Stop>
-    requires { Nests F.Files T.Tables room (N.pre nested) (N.post nested) }
-    ensures { Does (form.access_form (evals room) a.now) (world m.old (seen (F.stored files.old) (F.faults files.old) (F.answers files.old)) (seen (T.stored tables.old) (T.faults tables.old) (T.answers tables.old)) calls.old) result (world m.new (seen (F.stored files.new) (F.faults files.new) (F.answers files.new)) (seen (T.stored tables.new) (T.faults tables.new) (T.answers tables.new)) calls.new) }
-{
-    match a {
-        Access::Index(b, e) => {
-            let v = expr(alloc, room, nested, b.get(), m, files, tables, calls)?;
-            let k = expr(alloc, room, nested, e.get(), m, files, tables, calls)?;
-            index_of(alloc, m, false, &v, &k)
-        }
-        Access::Property(b, p) => {
-            let v = expr(alloc, room, nested, b.get(), m, files, tables, calls)?;
-            Ok(property_of(m, &v, p.as_slice())?)
-        }
-    }
-}
-
-// The same where it is only asked for.
-fn soft_access<
-    F: Files,
-    T: Tables,
-    N: Fn(
-        Global,
-        u32,
-        Nested<'_>,
-        &mut Machine,
-        &mut F,
-        &mut T,
-        &mut Calls,
-    ) -> Result<Outcome, Stop>
-        + Copy,
->(
-    alloc: Global,
-    room: u32,
-    nested: N,
-    a: &Access,
-    m: &mut Machine,
-    files: &mut F,
-    tables: &mut T,
-    calls: &mut Calls,
-) -> Result<Value, Stop>
-    requires { Nests F.Files T.Tables room (N.pre nested) (N.post nested) }
-    ensures { Does (form.soft_access_form (evals room) a.now) (world m.old (seen (F.stored files.old) (F.faults files.old) (F.answers files.old)) (seen (T.stored tables.old) (T.faults tables.old) (T.answers tables.old)) calls.old) result (world m.new (seen (F.stored files.new) (F.faults files.new) (F.answers files.new)) (seen (T.stored tables.new) (T.faults tables.new) (T.answers tables.new)) calls.new) }
-{
-    match a {
-        Access::Index(b, e) => {
-            let v = soft(alloc, room, nested, b.get(), m, files, tables, calls)?;
-            let k = expr(alloc, room, nested, e.get(), m, files, tables, calls)?;
-            index_of(alloc, m, true, &v, &k)
-        }
-        Access::Property(b, p) => {
-            let v = soft(alloc, room, nested, b.get(), m, files, tables, calls)?;
-            Ok(property_of(m, &v, p.as_slice())?)
-        }
-    }
-}
-
-// Operators that evaluate all their operands.
-fn operation<
-    F: Files,
-    T: Tables,
-    N: Fn(
-        Global,
-        u32,
-        Nested<'_>,
-        &mut Machine,
-        &mut F,
-        &mut T,
-        &mut Calls,
-    ) -> Result<Outcome, Stop>
-        + Copy,
->(
-    alloc: Global,
-    room: u32,
-    nested: N,
-    o: &Operation,
-    m: &mut Machine,
-    files: &mut F,
-    tables: &mut T,
-    calls: &mut Calls,
-) -> Result<Value, Stop>
-    requires { Nests F.Files T.Tables room (N.pre nested) (N.post nested) }
-    ensures { Does (form.operation_form (evals room) o.now) (world m.old (seen (F.stored files.old) (F.faults files.old) (F.answers files.old)) (seen (T.stored tables.old) (T.faults tables.old) (T.answers tables.old)) calls.old) result (world m.new (seen (F.stored files.new) (F.faults files.new) (F.answers files.new)) (seen (T.stored tables.new) (T.faults tables.new) (T.answers tables.new)) calls.new) }
-{
-    match o {
-        Operation::Unary(op, a) => {
-            let x = expr(alloc, room, nested, a.get(), m, files, tables, calls)?;
-            unary(alloc, room, nested, *op, &x, m, files, tables, calls)
-        }
-        Operation::Combine(op, a, b) => {
-            let x = expr(alloc, room, nested, a.get(), m, files, tables, calls)?;
-            let y = expr(alloc, room, nested, b.get(), m, files, tables, calls)?;
-            combined(alloc, room, nested, *op, &x, &y, m, files, tables, calls)
-        }
-        Operation::Compare(op, a, b) => {
-            let x = expr(alloc, room, nested, a.get(), m, files, tables, calls)?;
-            let y = expr(alloc, room, nested, b.get(), m, files, tables, calls)?;
-            compared(m, *op, &x, &y)
-        }
-        Operation::InstanceOf(a, c) => {
-            let x = expr(alloc, room, nested, a.get(), m, files, tables, calls)?;
-            instance_of(m, c.as_slice(), &x)
-        }
-    }
-}
-
-// Operators that may leave an operand out, and questions.
-fn test<
-    F: Files,
-    T: Tables,
-    N: Fn(
-        Global,
-        u32,
-        Nested<'_>,
-        &mut Machine,
-        &mut F,
-        &mut T,
-        &mut Calls,
-    ) -> Result<Outcome, Stop>
-        + Copy,
->(
-    alloc: Global,
-    room: u32,
-    nested: N,
-    t: &Test,
-    m: &mut Machine,
-    files: &mut F,
-    tables: &mut T,
-    calls: &mut Calls,
-) -> Result<Value, Stop>
-    requires { Nests F.Files T.Tables room (N.pre nested) (N.post nested) }
-    ensures { Does (form.test_form (evals room) t.now) (world m.old (seen (F.stored files.old) (F.faults files.old) (F.answers files.old)) (seen (T.stored tables.old) (T.faults tables.old) (T.answers tables.old)) calls.old) result (world m.new (seen (F.stored files.new) (F.faults files.new) (F.answers files.new)) (seen (T.stored tables.new) (T.faults tables.new) (T.answers tables.new)) calls.new) }
-{
-    match t {
-        Test::And(a, b) => {
-            let x = expr(alloc, room, nested, a.get(), m, files, tables, calls)?;
-            if !x.truth() {
-                return Ok(Value::Bool(false));
-            }
-            let y = expr(alloc, room, nested, b.get(), m, files, tables, calls)?;
-            Ok(Value::Bool(y.truth()))
-        }
-        Test::Or(a, b) => {
-            let x = expr(alloc, room, nested, a.get(), m, files, tables, calls)?;
-            if x.truth() {
-                return Ok(Value::Bool(true));
-            }
-            let y = expr(alloc, room, nested, b.get(), m, files, tables, calls)?;
-            Ok(Value::Bool(y.truth()))
-        }
-        Test::Coalesce(a, b) => {
-            let x = soft(alloc, room, nested, a.get(), m, files, tables, calls)?;
-            if is_nothing(&x) {
-                return expr(alloc, room, nested, b.get(), m, files, tables, calls);
-            }
-            Ok(x)
-        }
-        Test::Choice(c, a, b) => {
-            let x = expr(alloc, room, nested, c.get(), m, files, tables, calls)?;
-            if x.truth() {
-                return expr(alloc, room, nested, a.get(), m, files, tables, calls);
-            }
-            expr(alloc, room, nested, b.get(), m, files, tables, calls)
-        }
-        Test::Either(c, b) => {
-            let x = expr(alloc, room, nested, c.get(), m, files, tables, calls)?;
-            if x.truth() {
-                return Ok(x);
-            }
-            expr(alloc, room, nested, b.get(), m, files, tables, calls)
-        }
-        Test::Isset(es) => all_set(alloc, room, nested, es.as_slice(), m, files, tables, calls),
-        Test::Empty(e) => {
-            let x = soft(alloc, room, nested, e.get(), m, files, tables, calls)?;
-            Ok(Value::Bool(!x.truth()))
-        }
-    }
-}
-
-// Whether no operand of `isset` is null.
-fn all_set<
-    F: Files,
-    T: Tables,
-    N: Fn(
-        Global,
-        u32,
-        Nested<'_>,
-        &mut Machine,
-        &mut F,
-        &mut T,
-        &mut Calls,
-    ) -> Result<Outcome, Stop>
-        + Copy,
->(
-    alloc: Global,
-    room: u32,
-    nested: N,
-    es: &[Expr],
-    m: &mut Machine,
-    files: &mut F,
-    tables: &mut T,
-    calls: &mut Calls,
-) -> Result<Value, Stop>
-    requires { Nests F.Files T.Tables room (N.pre nested) (N.post nested) }
-    ensures { Does (form.all_set (evals room) es.now) (world m.old (seen (F.stored files.old) (F.faults files.old) (F.answers files.old)) (seen (T.stored tables.old) (T.faults tables.old) (T.answers tables.old)) calls.old) result (world m.new (seen (F.stored files.new) (F.faults files.new) (F.answers files.new)) (seen (T.stored tables.new) (T.faults tables.new) (T.answers tables.new)) calls.new) }
-{
-    for e in es {
-        let v = soft(alloc, room, nested, e, m, files, tables, calls)?;
-        if is_nothing(&v) {
-            return Ok(Value::Bool(false));
-        }
-    }
-    Ok(Value::Bool(true))
 }

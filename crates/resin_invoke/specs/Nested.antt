@@ -2,17 +2,19 @@
 use Rattle.std.specs.Prelude.{ℕ, ◌<◌, Result, Ok, Err}
 use Rattle.std.specs.declared.alloc.Global.{Global}
 use denote.Ref.{MutBor}
-use Rattle.resin_base.specs.declared.calls.Calls.{Calls}
 use Rattle.resin_base.specs.declared.files.Files as Files
 use Rattle.resin_base.specs.declared.tables.Tables as Tables
-use Rattle.resin_machine.specs.State.{State}
 use Rattle.resin_machine.specs.declared.stop.Stop.{Stop}
-use Rattle.resin_program.specs.Runs.{World, Does, seen, world}
+use Rattle.resin_program.specs.Runs.{World, Does}
+use Rattle.resin_evaluation.specs.Parts.{Evals}
 use Rattle.resin_evaluation.specs.Programs.{evals}
+use Rattle.resin_invoke.specs.Running.{at}
+use Rattle.resin_invoke.specs.declared.nested.Evaluator.{Evaluator}
 use Rattle.resin_invoke.specs.declared.nested.Nested.{Nested}
 use Rattle.resin_invoke.specs.declared.nested.Nested.TheVariants.{Value, Asked, Statement}
 use Rattle.resin_invoke.specs.declared.nested.Outcome.{Outcome}
 use Rattle.resin_invoke.specs.declared.nested.Outcome.TheVariants as outcome
+use Rattle.resin_invoke.specs.declared.run.Run.{Run}
 
 -- what nests in an evaluation, where so many more may be open, goes from one world to another and ends so: an expression ends with a value, a statement with a
 -- course, and what isn't stopped has spent a tick
@@ -28,13 +30,20 @@ Ends room (Statement s) u (Ok (outcome.Course c)) w = Does ((evals room).stmt s.
 Ends room (Statement s) u (Err stop) w = Does ((evals room).stmt s.now) u (Err stop) w
 
 -- a function value, by what its calls require and ensure, that does what nests in an evaluation where so many more may be open
-pub record Nests {F T : Type 0} (files : Files.Ghosts F) (tables : Tables.Ghosts T) (room : ℕ)
-    (pre : Global → ℕ → Nested → MutBor State → MutBor F → MutBor T → MutBor Calls → Type 0)
-    (post : Global → ℕ → Nested → MutBor State → MutBor F → MutBor T → MutBor Calls → Result Outcome Stop → MutBor State → MutBor F → MutBor T → MutBor Calls → Type 0)
+pub record NestsIn {F T : Type 0} (files : Files.Ghosts F) (tables : Tables.Ghosts T) (room : ℕ)
+    (pre : Global → ℕ → Nested → MutBor (Run F T) → Type 0)
+    (post : Global → ℕ → Nested → MutBor (Run F T) → Result Outcome Stop → MutBor (Run F T) → Type 0)
     : Type 0 where
-  pub callable : (g : Global) (n : Nested) (m : MutBor State) (f : MutBor F) (t : MutBor T) (c : MutBor Calls) → pre g room n m f t c
-  pub ends : (g : Global) (n : Nested) (m m' : MutBor State) (f f' : MutBor F) (t t' : MutBor T) (c c' : MutBor Calls) (end : Result Outcome Stop)
-      → post g room n m f t c end m' f' t' c'
-      → Ends room n
-      (world m.now (seen (files.stored f.now) (files.faults f.now) (files.answers f.now)) (seen (tables.stored t.now) (tables.faults t.now) (tables.answers t.now)) c.now) end
-      (world m'.now (seen (files.stored f'.now) (files.faults f'.now) (files.answers f'.now)) (seen (tables.stored t'.now) (tables.faults t'.now) (tables.answers t'.now)) c'.now)
+  pub callable : (g : Global) (n : Nested) (r : MutBor (Run F T)) → pre g room n r
+  pub ends : (g : Global) (n : Nested) (r r' : MutBor (Run F T)) (end : Result Outcome Stop) → post g room n r end r' → Ends room n (at files tables r.now) end (at files tables r'.now)
+
+-- the same of the function value of an evaluator
+abbrev pub Nests : {F T N : Type 0} → Files.Ghosts F → Tables.Ghosts T
+    → (N → Global → ℕ → Nested → MutBor (Run F T) → Type 0)
+    → (N → Global → ℕ → Nested → MutBor (Run F T) → Result Outcome Stop → MutBor (Run F T) → Type 0)
+    → Evaluator F T N → Type 0
+Nests files tables pre post ev = NestsIn files tables ev.room (pre ev.nested) (post ev.nested)
+
+-- what an evaluator evaluates what nests to
+abbrev pub means : {F T N : Type 0} → Evaluator F T N → Evals
+means ev = evals ev.room

@@ -3,17 +3,18 @@
 //! A part of an evaluation doesn't call the evaluator itself, but is given it: so each part is proved on its own, by what the function value is required
 //! to do, and only the evaluator, which gives itself, recurs. It takes one evaluation off the room that is left each time.
 ghost use Rattle.resin_evaluation.specs.Forms as form;
-ghost use Rattle.resin_evaluation.specs.Programs.{evals};
-ghost use Rattle.resin_invoke.specs.Nested.{Nests};
-ghost use Rattle.resin_program.specs.Runs.{Does, seen, world};
+ghost use Rattle.resin_invoke.specs.Nested.{Nests, means};
+ghost use Rattle.resin_invoke.specs.Running.{Performs};
 ghost use Rattle.std.specs.Prelude.{OnOk, ◌<◌};
 
-use resin_base::{Calls, Files, Tables};
+use crate::run::Run;
+use resin_base::{Files, Tables};
 use resin_evaluation::Course;
-use resin_machine::{Machine, Stop};
+use resin_machine::Stop;
 use resin_tree::{Expr, Stmt};
 use resin_value::{Value, Values};
 use std::alloc::Global;
+use std::marker::PhantomData;
 
 /// What nests in an evaluation.
 #[derive(Clone, Copy)]
@@ -35,138 +36,66 @@ pub enum Outcome {
     Course(Course),
 }
 
-/// The value of an expression.
-pub fn expr<
-    F: Files,
-    T: Tables,
-    N: Fn(
-        Global,
-        u32,
-        Nested<'_>,
-        &mut Machine,
-        &mut F,
-        &mut T,
-        &mut Calls,
-    ) -> Result<Outcome, Stop>
-        + Copy,
->(
-    alloc: Global,
-    room: u32,
-    nested: N,
-    e: &Expr,
-    m: &mut Machine,
-    files: &mut F,
-    tables: &mut T,
-    calls: &mut Calls,
-) -> Result<Value, Stop>
-    requires { Nests F.Files T.Tables room (N.pre nested) (N.post nested) }
-    ensures does { Does ((evals room).expr e.now) (world m.old (seen (F.stored files.old) (F.faults files.old) (F.answers files.old)) (seen (T.stored tables.old) (T.faults tables.old) (T.answers tables.old)) calls.old) result (world m.new (seen (F.stored files.new) (F.faults files.new) (F.answers files.new)) (seen (T.stored tables.new) (T.faults tables.new) (T.answers tables.new)) calls.new) }
-    ensures spent { OnOk result (m.new.ticks < m.old.ticks) }
-{
-    match nested(alloc, room, Nested::Value(e), m, files, tables, calls)? {
-        Outcome::Value(end) => Ok(end),
-        Outcome::Course(_) => unreachable!(),
-    }
+/// Evaluates what nests in a form by a function value, where `room` more evaluations may be open. The forms themselves are methods, here and in structs of the crates
+/// above that hold one of these.
+#[derive(Drop)]
+pub struct Evaluator<F, T, N> {
+    pub alloc: Global,
+    pub room: u32,
+    pub nested: N,
+    pub of: PhantomData<(F, T)>,
 }
 
-/// The value of an expression that is only asked for.
-pub fn soft<
+impl<
     F: Files,
     T: Tables,
-    N: Fn(
-        Global,
-        u32,
-        Nested<'_>,
-        &mut Machine,
-        &mut F,
-        &mut T,
-        &mut Calls,
-    ) -> Result<Outcome, Stop>
-        + Copy,
->(
-    alloc: Global,
-    room: u32,
-    nested: N,
-    e: &Expr,
-    m: &mut Machine,
-    files: &mut F,
-    tables: &mut T,
-    calls: &mut Calls,
-) -> Result<Value, Stop>
-    requires { Nests F.Files T.Tables room (N.pre nested) (N.post nested) }
-    ensures { Does ((evals room).soft e.now) (world m.old (seen (F.stored files.old) (F.faults files.old) (F.answers files.old)) (seen (T.stored tables.old) (T.faults tables.old) (T.answers tables.old)) calls.old) result (world m.new (seen (F.stored files.new) (F.faults files.new) (F.answers files.new)) (seen (T.stored tables.new) (T.faults tables.new) (T.answers tables.new)) calls.new) }
-{
-    match nested(alloc, room, Nested::Asked(e), m, files, tables, calls)? {
-        Outcome::Value(end) => Ok(end),
-        Outcome::Course(_) => unreachable!(),
+    N: Fn(Global, u32, Nested<'_>, &mut Run<F, T>) -> Result<Outcome, Stop> + Copy,
+> Evaluator<F, T, N> {
+    /// The value of an expression.
+    pub fn expr(&self, run: &mut Run<F, T>, e: &Expr) -> Result<Value, Stop>
+        requires { Nests F.Files T.Tables N.pre N.post self.now }
+        ensures does { Performs F.Files T.Tables ((means self.now).expr e.now) run.old result run.new }
+        ensures spent { OnOk result (run.new.machine.ticks < run.old.machine.ticks) }
+    {
+        match (self.nested)(self.alloc, self.room, Nested::Value(e), run)? {
+            Outcome::Value(end) => Ok(end),
+            Outcome::Course(_) => unreachable!(),
+        }
     }
-}
 
-/// A statement, at its own line.
-pub fn stmt<
-    F: Files,
-    T: Tables,
-    N: Fn(
-        Global,
-        u32,
-        Nested<'_>,
-        &mut Machine,
-        &mut F,
-        &mut T,
-        &mut Calls,
-    ) -> Result<Outcome, Stop>
-        + Copy,
->(
-    alloc: Global,
-    room: u32,
-    nested: N,
-    s: &Stmt,
-    m: &mut Machine,
-    files: &mut F,
-    tables: &mut T,
-    calls: &mut Calls,
-) -> Result<Course, Stop>
-    requires { Nests F.Files T.Tables room (N.pre nested) (N.post nested) }
-    ensures does { Does ((evals room).stmt s.now) (world m.old (seen (F.stored files.old) (F.faults files.old) (F.answers files.old)) (seen (T.stored tables.old) (T.faults tables.old) (T.answers tables.old)) calls.old) result (world m.new (seen (F.stored files.new) (F.faults files.new) (F.answers files.new)) (seen (T.stored tables.new) (T.faults tables.new) (T.answers tables.new)) calls.new) }
-    ensures spent { OnOk result (m.new.ticks < m.old.ticks) }
-{
-    match nested(alloc, room, Nested::Statement(s), m, files, tables, calls)? {
-        Outcome::Course(end) => Ok(end),
-        Outcome::Value(_) => unreachable!(),
+    /// The value of an expression that is only asked for.
+    pub fn soft(&self, run: &mut Run<F, T>, e: &Expr) -> Result<Value, Stop>
+        requires { Nests F.Files T.Tables N.pre N.post self.now }
+        ensures { Performs F.Files T.Tables ((means self.now).soft e.now) run.old result run.new }
+    {
+        match (self.nested)(self.alloc, self.room, Nested::Asked(e), run)? {
+            Outcome::Value(end) => Ok(end),
+            Outcome::Course(_) => unreachable!(),
+        }
     }
-}
 
-/// Expressions, from the left.
-pub fn values<
-    F: Files,
-    T: Tables,
-    N: Fn(
-        Global,
-        u32,
-        Nested<'_>,
-        &mut Machine,
-        &mut F,
-        &mut T,
-        &mut Calls,
-    ) -> Result<Outcome, Stop>
-        + Copy,
->(
-    alloc: Global,
-    room: u32,
-    nested: N,
-    es: &[Expr],
-    m: &mut Machine,
-    files: &mut F,
-    tables: &mut T,
-    calls: &mut Calls,
-) -> Result<Values, Stop>
-    requires { Nests F.Files T.Tables room (N.pre nested) (N.post nested) }
-    ensures { Does (form.values (evals room) es.now) (world m.old (seen (F.stored files.old) (F.faults files.old) (F.answers files.old)) (seen (T.stored tables.old) (T.faults tables.old) (T.answers tables.old)) calls.old) result (world m.new (seen (F.stored files.new) (F.faults files.new) (F.answers files.new)) (seen (T.stored tables.new) (T.faults tables.new) (T.answers tables.new)) calls.new) }
-{
-    let mut vs = Values::new(alloc);
-    for e in es {
-        let v = expr(alloc, room, nested, e, m, files, tables, calls)?;
-        vs.push(v)?;
+    /// A statement, at its own line.
+    pub fn stmt(&self, run: &mut Run<F, T>, s: &Stmt) -> Result<Course, Stop>
+        requires { Nests F.Files T.Tables N.pre N.post self.now }
+        ensures does { Performs F.Files T.Tables ((means self.now).stmt s.now) run.old result run.new }
+        ensures spent { OnOk result (run.new.machine.ticks < run.old.machine.ticks) }
+    {
+        match (self.nested)(self.alloc, self.room, Nested::Statement(s), run)? {
+            Outcome::Course(end) => Ok(end),
+            Outcome::Value(_) => unreachable!(),
+        }
     }
-    Ok(vs)
+
+    /// Expressions, from the left.
+    pub fn values(&self, run: &mut Run<F, T>, es: &[Expr]) -> Result<Values, Stop>
+        requires { Nests F.Files T.Tables N.pre N.post self.now }
+        ensures { Performs F.Files T.Tables (form.values (means self.now) es.now) run.old result run.new }
+    {
+        let mut vs = Values::new(self.alloc);
+        for e in es {
+            let v = self.expr(run, e)?;
+            vs.push(v)?;
+        }
+        Ok(vs)
+    }
 }

@@ -1,6 +1,6 @@
 -- Places behind a text, and what a text is read as.
-use Rattle.std.proofs.Common.{◌≡◌, ℕ, zero, suc, ◌+◌, ◌<◌, ◌≤◌, List, [], ◌∷◌, length, Result, Ok, Err, refl, sym, ap, ◌∙◌, arith, subst, inl, Bool, true}
-use Rattle.std.specs.Prelude.{nat_le, IsTrue, if◌then◌else◌}
+use Rattle.std.proofs.Common.{◌≡◌, ℕ, zero, suc, ◌+◌, ◌≤◌, List, [], ◌∷◌, length, Result, Ok, Err, refl, sym, ap, ◌∙◌, arith, subst, inl, true}
+use Rattle.std.specs.Prelude.{nat_le, if◌then◌else◌}
 use Rattle.std.proofs.lemmas.Bool.Decides.{nat_tests}
 use Rattle.resin_lstr.specs.Texts.{LONGEST}
 use Rattle.resin_lex.specs.Lines.{ends_line, line_ends, line_of}
@@ -8,7 +8,6 @@ use Rattle.resin_lex.specs.declared.token.ParseFault.{ParseFault}
 use Rattle.resin_lex.specs.declared.token.ParseFault.TheVariants as fault
 use Rattle.resin_tree.specs.declared.declaration.Program.{Program}
 use Rattle.resin_scalar.specs.declared.faults.ScriptFault.TheVariants.{Syntax, TooDeep}
-use Rattle.resin_machine.specs.declared.stop.Stop.{Stop}
 use Rattle.resin_machine.specs.declared.stop.Stop.TheVariants.{Fault, Memory}
 use Rattle.resin_parse.specs.Parsed.{IsAsParsed, parsed}
 use Rattle.resin_program.specs.Programs.{Prog, ended, moment}

@@ -1,5 +1,5 @@
 -- Which file a request asks for, and of what type it is (this project).
-use Rattle.std.specs.Prelude.{ℕ, Bool, ◌==◌, ◌&&◌, ◌||◌, not, nat_eq, List, [], ◌++◌, length, drop, codes, if◌then◌else◌}
+use Rattle.std.specs.Prelude.{ℕ, Bool, ◌==◌, ◌&&◌, ◌||◌, not, nat_eq, List, ◌++◌, length, drop, codes, if◌then◌else◌}
 use Rattle.std.specs.List.{before_first, ends_with}
 use Rattle.percent_encoding.specs.Percent.{percent_decode}
 use Rattle.resin_bytes.specs.Paths.{is_lawful_path}

@@ -2,13 +2,13 @@
 ghost use Rattle.std.specs.Prelude.{◌≡◌, [], IfOk};
 ghost use Rattle.resin_lstr.specs.Faults.{GivesText};
 ghost use Rattle.resin_target.specs.Reads.{GivesOrNoMemory};
-ghost use Rattle.resin_program.specs.Runs.{Does, seen, world};
+ghost use Rattle.resin_invoke.specs.Running.{Performs};
 ghost use Rattle.resin_evaluation.specs.Runs.{Runs};
 ghost use Rattle.resin_evaluation.specs.Operators.{too_long};
 ghost use Rattle.resin_request.specs.Buffers.{joined_outwards, with_closed, close_more, leave_joined, end_buffers};
 
-use resin_base::{Calls, Files, Tables};
-use resin_interp::{Machine, Stop, leave_page};
+use resin_base::{Files, Tables};
+use resin_interp::{Machine, Run, Stop, leave_page};
 use resin_lstr::{Builder, LText, TextFault, Texts};
 use resin_scalar::CallStop;
 use resin_steps::reads::text_stop;
@@ -63,18 +63,13 @@ fn joined_or_stop(alloc: Global, texts: &[LText]) -> Result<LText, CallStop>
 // The texts of closed buffers leave as one write.
 fn leave_joined<F: Files, T: Tables>(
     alloc: Global,
+    run: &mut Run<F, T>,
     texts: &Texts,
-    m: &mut Machine,
-    files: &mut F,
-    tables: &mut T,
-    calls: &mut Calls,
 ) -> Result<(), Stop>
-    ensures { Does (leave_joined texts.now)
-        (world m.old (seen (F.stored files.old) (F.faults files.old) (F.answers files.old)) (seen (T.stored tables.old) (T.faults tables.old) (T.answers tables.old)) calls.old) result
-        (world m.new (seen (F.stored files.new) (F.faults files.new) (F.answers files.new)) (seen (T.stored tables.new) (T.faults tables.new) (T.answers tables.new)) calls.new) }
+    ensures { Performs F.Files T.Tables (leave_joined texts.now) run.old result run.new }
 {
-    let text = m.settle(joined_or_stop(alloc, texts.as_slice()))?;
-    leave_page(alloc, text, m, files, tables, calls)
+    let text = run.machine.settle(joined_or_stop(alloc, texts.as_slice()))?;
+    leave_page(alloc, run, text)
 }
 
 /// The open output buffers are closed, and what they hold leaves as one write on `http`, where any is open.
@@ -84,19 +79,14 @@ fn leave_joined<F: Files, T: Tables>(
 /// `TextTooLong` where all their texts together pass 16,777,216 bytes, and how the write stops.
 pub(crate) fn end_buffers<F: Files, T: Tables>(
     alloc: Global,
-    m: &mut Machine,
-    files: &mut F,
-    tables: &mut T,
-    calls: &mut Calls,
+    run: &mut Run<F, T>,
 ) -> Result<(), Stop>
-    ensures { Does end_buffers
-        (world m.old (seen (F.stored files.old) (F.faults files.old) (F.answers files.old)) (seen (T.stored tables.old) (T.faults tables.old) (T.answers tables.old)) calls.old) result
-        (world m.new (seen (F.stored files.new) (F.faults files.new) (F.answers files.new)) (seen (T.stored tables.new) (T.faults tables.new) (T.answers tables.new)) calls.new) }
+    ensures { Performs F.Files T.Tables end_buffers run.old result run.new }
 {
-    let count = m.stage().open_buffers();
+    let count = run.machine.stage().open_buffers();
     if count == 0 {
         return Ok(());
     }
-    let texts = close_all(alloc, m, count)?;
-    leave_joined(alloc, &texts, m, files, tables, calls)
+    let texts = close_all(alloc, &mut run.machine, count)?;
+    leave_joined(alloc, run, &texts)
 }

@@ -2,6 +2,7 @@
 ghost use Rattle.std.specs.Prelude.{◌≡◌, ◌≤◌, length, Some};
 ghost use Rattle.resin_lstr.specs.Texts.{LONGEST};
 ghost use Rattle.resin_program.specs.Runs.{Does, seen, world};
+ghost use Rattle.resin_invoke.specs.Running.{Performs};
 ghost use Rattle.resin_evaluation.specs.Runs.{Runs};
 ghost use Rattle.resin_request.specs.Requests.{has_filters, put_inputs, set_inputs, run_entry, run_boot, run_script, send_file, serve_text, serve_file, serve_found, request_program};
 
@@ -10,9 +11,9 @@ use crate::paths::{BOOT_PATH, is_open, is_script};
 use crate::source::{run_source, thaw};
 use resin_base::{Calls, Entry, Files, Tables};
 use resin_inputs::InputArrays;
-use resin_interp::{Machine, Stop, leave_page};
+use resin_interp::lent::with_run;
+use resin_interp::{Machine, Run, Stop, leave_page};
 use resin_journal::Channel;
-use resin_program::read_file;
 use resin_steps::reads::plain;
 use resin_value::Value;
 use std::alloc::Global;
@@ -59,157 +60,138 @@ fn set_inputs(m: &mut Machine, inputs: InputArrays) -> Result<bool, Stop>
 // Runs the text of an entry.
 fn run_entry<F: Files, T: Tables>(
     alloc: Global,
+    run: &mut Run<F, T>,
     e: &Entry,
-    m: &mut Machine,
-    files: &mut F,
-    tables: &mut T,
-    calls: &mut Calls,
 ) -> Result<bool, Stop>
-    ensures { Does (run_entry e.now)
-        (world m.old (seen (F.stored files.old) (F.faults files.old) (F.answers files.old)) (seen (T.stored tables.old) (T.faults tables.old) (T.answers tables.old)) calls.old) result
-        (world m.new (seen (F.stored files.new) (F.faults files.new) (F.answers files.new)) (seen (T.stored tables.new) (T.faults tables.new) (T.answers tables.new)) calls.new) }
+    ensures { Performs F.Files T.Tables (run_entry e.now) run.old result run.new }
 {
-    let built = thaw(m, e)?;
+    let built = thaw(&run.machine, e)?;
     if !built {
         return Ok(false);
     }
-    run_source(alloc, e.bytes.as_slice(), m, files, tables, calls)
+    run_source(alloc, run, e.bytes.as_slice())
 }
 
 // Runs `boot.php`, where it is there.
-fn run_boot<F: Files, T: Tables>(
-    alloc: Global,
-    m: &mut Machine,
-    files: &mut F,
-    tables: &mut T,
-    calls: &mut Calls,
-) -> Result<bool, Stop>
-    ensures { Does (run_boot)
-        (world m.old (seen (F.stored files.old) (F.faults files.old) (F.answers files.old)) (seen (T.stored tables.old) (T.faults tables.old) (T.answers tables.old)) calls.old) result
-        (world m.new (seen (F.stored files.new) (F.faults files.new) (F.answers files.new)) (seen (T.stored tables.new) (T.faults tables.new) (T.answers tables.new)) calls.new) }
+fn run_boot<F: Files, T: Tables>(alloc: Global, run: &mut Run<F, T>) -> Result<bool, Stop>
+    ensures { Performs F.Files T.Tables run_boot run.old result run.new }
 {
-    let found = read_file(m, files, calls, BOOT_PATH)?;
+    let found = run.read_file(BOOT_PATH)?;
     match found {
         None => Ok(true),
-        Some(e) => run_entry(alloc, &e, m, files, tables, calls),
+        Some(e) => run_entry(alloc, run, &e),
     }
 }
 
 // The script of the request passes the filters of source text, counts as imported, and runs.
 fn run_script<F: Files, T: Tables>(
     alloc: Global,
+    run: &mut Run<F, T>,
     path: &[u8],
     src: &[u8],
-    m: &mut Machine,
-    files: &mut F,
-    tables: &mut T,
-    calls: &mut Calls,
 ) -> Result<bool, Stop>
     requires { length src.now ≤ LONGEST }
-    ensures { Does (run_script path.now src.now)
-        (world m.old (seen (F.stored files.old) (F.faults files.old) (F.answers files.old)) (seen (T.stored tables.old) (T.faults tables.old) (T.answers tables.old)) calls.old) result
-        (world m.new (seen (F.stored files.new) (F.faults files.new) (F.answers files.new)) (seen (T.stored tables.new) (T.faults tables.new) (T.answers tables.new)) calls.new) }
+    ensures { Performs F.Files T.Tables (run_script path.now src.now) run.old result run.new }
 {
-    if has_filters(m, Channel::Code) {
+    if has_filters(&run.machine, Channel::Code) {
         return Ok(false);
     }
-    m.import(path)?;
-    run_source(alloc, src, m, files, tables, calls)
+    run.machine.import(path)?;
+    run_source(alloc, run, src)
 }
 
 // A file that is no script passes the filters of files, and goes out as one write.
 fn send_file<F: Files, T: Tables>(
     alloc: Global,
+    run: &mut Run<F, T>,
     bytes: &[u8],
-    m: &mut Machine,
-    files: &mut F,
-    tables: &mut T,
-    calls: &mut Calls,
 ) -> Result<bool, Stop>
-    ensures { Does (send_file bytes.now)
-        (world m.old (seen (F.stored files.old) (F.faults files.old) (F.answers files.old)) (seen (T.stored tables.old) (T.faults tables.old) (T.answers tables.old)) calls.old) result
-        (world m.new (seen (F.stored files.new) (F.faults files.new) (F.answers files.new)) (seen (T.stored tables.new) (T.faults tables.new) (T.answers tables.new)) calls.new) }
+    ensures { Performs F.Files T.Tables (send_file bytes.now) run.old result run.new }
 {
-    if has_filters(m, Channel::File) {
+    if has_filters(&run.machine, Channel::File) {
         return Ok(false);
     }
     let text = plain(alloc, bytes)?;
-    leave_page(alloc, text, m, files, tables, calls)?;
+    leave_page(alloc, run, text)?;
     Ok(true)
 }
 
 // The text of the request's file runs, or goes out.
 fn serve_text<F: Files, T: Tables>(
     alloc: Global,
+    run: &mut Run<F, T>,
     path: &[u8],
     bytes: &[u8],
-    m: &mut Machine,
-    files: &mut F,
-    tables: &mut T,
-    calls: &mut Calls,
 ) -> Result<bool, Stop>
     requires { length bytes.now ≤ LONGEST }
-    ensures { Does (serve_text path.now bytes.now)
-        (world m.old (seen (F.stored files.old) (F.faults files.old) (F.answers files.old)) (seen (T.stored tables.old) (T.faults tables.old) (T.answers tables.old)) calls.old) result
-        (world m.new (seen (F.stored files.new) (F.faults files.new) (F.answers files.new)) (seen (T.stored tables.new) (T.faults tables.new) (T.answers tables.new)) calls.new) }
+    ensures { Performs F.Files T.Tables (serve_text path.now bytes.now) run.old result run.new }
 {
     if is_script(path) {
-        run_script(alloc, path, bytes, m, files, tables, calls)
+        run_script(alloc, run, path, bytes)
     } else {
-        send_file(alloc, bytes, m, files, tables, calls)
+        send_file(alloc, run, bytes)
     }
 }
 
 // The file of the request.
 fn serve_file<F: Files, T: Tables>(
     alloc: Global,
+    run: &mut Run<F, T>,
     path: &[u8],
     e: &Entry,
-    m: &mut Machine,
-    files: &mut F,
-    tables: &mut T,
-    calls: &mut Calls,
 ) -> Result<bool, Stop>
-    ensures { Does (serve_file path.now e.now)
-        (world m.old (seen (F.stored files.old) (F.faults files.old) (F.answers files.old)) (seen (T.stored tables.old) (T.faults tables.old) (T.answers tables.old)) calls.old) result
-        (world m.new (seen (F.stored files.new) (F.faults files.new) (F.answers files.new)) (seen (T.stored tables.new) (T.faults tables.new) (T.answers tables.new)) calls.new) }
+    ensures { Performs F.Files T.Tables (serve_file path.now e.now) run.old result run.new }
 {
-    let built = thaw(m, e)?;
+    let built = thaw(&run.machine, e)?;
     if !built {
         return Ok(false);
     }
-    serve_text(alloc, path, e.bytes.as_slice(), m, files, tables, calls)
+    serve_text(alloc, run, path, e.bytes.as_slice())
 }
 
 // The steps behind the first read, where the file is there.
 fn serve_entry<F: Files, T: Tables>(
     alloc: Global,
+    run: &mut Run<F, T>,
     path: &[u8],
     inputs: InputArrays,
     e: &Entry,
-    m: &mut Machine,
-    files: &mut F,
-    tables: &mut T,
-    calls: &mut Calls,
 ) -> Result<Finish, Stop>
-    ensures { Does (serve_found path.now inputs (Some e.now))
-        (world m.old (seen (F.stored files.old) (F.faults files.old) (F.answers files.old)) (seen (T.stored tables.old) (T.faults tables.old) (T.answers tables.old)) calls.old) result
-        (world m.new (seen (F.stored files.new) (F.faults files.new) (F.answers files.new)) (seen (T.stored tables.new) (T.faults tables.new) (T.answers tables.new)) calls.new) }
+    ensures { Performs F.Files T.Tables (serve_found path.now inputs (Some e.now)) run.old result run.new }
 {
-    let boot = run_boot(alloc, m, files, tables, calls)?;
+    let boot = run_boot(alloc, run)?;
     if !boot {
         return Ok(Finish::NotYet);
     }
-    let set = set_inputs(m, inputs)?;
+    let set = set_inputs(&mut run.machine, inputs)?;
     if !set {
         return Ok(Finish::NotYet);
     }
-    let sent = serve_file(alloc, path, e, m, files, tables, calls)?;
+    let sent = serve_file(alloc, run, path, e)?;
     if !sent {
         return Ok(Finish::NotYet);
     }
-    end_buffers(alloc, m, files, tables, calls)?;
+    end_buffers(alloc, run)?;
     Ok(Finish::Answered)
+}
+
+// One request over a run.
+fn perform_request<F: Files, T: Tables>(
+    alloc: Global,
+    run: &mut Run<F, T>,
+    path: &[u8],
+    inputs: InputArrays,
+) -> Result<Finish, Stop>
+    ensures { Performs F.Files T.Tables (request_program path.now inputs) run.old result run.new }
+{
+    if !is_open(path) {
+        return Ok(Finish::Missing);
+    }
+    let found = run.read_file(path)?;
+    match found {
+        None => Ok(Finish::Missing),
+        Some(e) => serve_entry(alloc, run, path, inputs, &e),
+    }
 }
 
 /// One request for a path, from the state in which a request begins. A path that isn't open to requests is missing, and nothing is read. The file
@@ -236,12 +218,13 @@ pub fn run_request<F: Files, T: Tables>(
         (world m.old (seen (F.stored files.old) (F.faults files.old) (F.answers files.old)) (seen (T.stored tables.old) (T.faults tables.old) (T.answers tables.old)) calls.old) result
         (world m.new (seen (F.stored files.new) (F.faults files.new) (F.answers files.new)) (seen (T.stored tables.new) (T.faults tables.new) (T.answers tables.new)) calls.new) }
 {
-    if !is_open(path) {
-        return Ok(Finish::Missing);
-    }
-    let found = read_file(m, files, calls, path)?;
-    match found {
-        None => Ok(Finish::Missing),
-        Some(e) => serve_entry(alloc, path, inputs, &e, m, files, tables, calls),
-    }
+    with_run(
+        m,
+        files,
+        tables,
+        calls,
+        |run|
+            ensures { Performs F.Files T.Tables (request_program path.entry.now inputs) run.old result run.new }
+        { perform_request(alloc, run, path, inputs) },
+    )
 }

@@ -3,13 +3,14 @@ ghost use Rattle.std.specs.Prelude.{◌≡◌, ◌≤◌, IfOk, IsTrue, length};
 ghost use Rattle.resin_lex.specs.Lines.{line_of};
 ghost use Rattle.resin_lstr.specs.Texts.{LONGEST};
 ghost use Rattle.resin_parse.specs.Parsed.{parsed};
-ghost use Rattle.resin_program.specs.Runs.{Does, World, seen, world};
+ghost use Rattle.resin_program.specs.Runs.{Does, World};
+ghost use Rattle.resin_invoke.specs.Running.{Performs};
 ghost use Rattle.resin_evaluation.specs.Runs.{Runs};
 ghost use Rattle.resin_request.specs.Sources.{read_as, run_built, run_source, has_shadow, is_short, thaw};
 
-use resin_base::{Calls, Entry, Files, Tables};
+use resin_base::{Entry, Files, Tables};
 use resin_built::is_built;
-use resin_interp::{Machine, Stop, run_program};
+use resin_interp::{Machine, Run, Stop, perform};
 use resin_lex::{ParseFault, line_of};
 use resin_parse::program;
 use resin_scalar::ScriptFault;
@@ -50,20 +51,15 @@ fn read_source(alloc: Global, src: &[u8]) -> Result<Program, Stop>
 // Runs a program where all of it is built; whether it is.
 fn run_built<F: Files, T: Tables>(
     alloc: Global,
+    run: &mut Run<F, T>,
     p: &Program,
-    m: &mut Machine,
-    files: &mut F,
-    tables: &mut T,
-    calls: &mut Calls,
 ) -> Result<bool, Stop>
-    ensures { Does (run_built p.now)
-        (world m.old (seen (F.stored files.old) (F.faults files.old) (F.answers files.old)) (seen (T.stored tables.old) (T.faults tables.old) (T.answers tables.old)) calls.old) result
-        (world m.new (seen (F.stored files.new) (F.faults files.new) (F.answers files.new)) (seen (T.stored tables.new) (T.faults tables.new) (T.answers tables.new)) calls.new) }
+    ensures { Performs F.Files T.Tables (run_built p.now) run.old result run.new }
 {
     if !is_built(p) {
         return Ok(false);
     }
-    let _flow = run_program(alloc, m, p, files, tables, calls)?;
+    let _flow = perform(alloc, run, p)?;
     Ok(true)
 }
 
@@ -75,19 +71,14 @@ fn run_built<F: Files, T: Tables>(
 /// stops. After `Memory` the state, the keepers and the calls are as after some of its steps.
 pub(crate) fn run_source<F: Files, T: Tables>(
     alloc: Global,
+    run: &mut Run<F, T>,
     src: &[u8],
-    m: &mut Machine,
-    files: &mut F,
-    tables: &mut T,
-    calls: &mut Calls,
 ) -> Result<bool, Stop>
     requires { length src.now ≤ LONGEST }
-    ensures { Does (run_source src.now)
-        (world m.old (seen (F.stored files.old) (F.faults files.old) (F.answers files.old)) (seen (T.stored tables.old) (T.faults tables.old) (T.answers tables.old)) calls.old) result
-        (world m.new (seen (F.stored files.new) (F.faults files.new) (F.answers files.new)) (seen (T.stored tables.new) (T.faults tables.new) (T.answers tables.new)) calls.new) }
+    ensures { Performs F.Files T.Tables (run_source src.now) run.old result run.new }
 {
     let p = read_source(alloc, src)?;
-    run_built(alloc, &p, m, files, tables, calls)
+    run_built(alloc, run, &p)
 }
 
 // Whether labels were stored with an entry.

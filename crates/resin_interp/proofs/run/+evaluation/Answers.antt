@@ -3,7 +3,7 @@ use Rattle.resin_interp.proofs.run.+evaluation.Goals as goal
 
 pub returns-then-room-eq0 : goal.returns-then-room-eq0
 returns-then-room-eq0 g t c =
-    shut c.args.room c.args.what c.args.m.now _ _ _ c.if-room-eq0.true c.fault.ensures
+    shut c.args.room c.args.what c.args.run.now.machine _ _ _ c.if-room-eq0.true c.fault.ensures
 
 pub returns-in_err-v-in-Value : goal.returns-in_err-v-in-Value
 returns-in_err-v-in-Value g t c =

@@ -30,8 +30,8 @@ returns-in-Return g c =
 pub loop-item-preserved : goal.loop-item-preserved
 loop-item-preserved g c =
     elim c.match-item.branch [
-      | in-Statement+in_ok-stmt+in-Next w ↦ record { goes_on = λ r u e. c.loop-item.invariant.goes_on r u (rw (front c.args.items.now c.loop-item.item-index c.item-item.result c.loop-item-test.true c.item-item.is) (rw w.in-Statement.is (does_next _ _ (w.in_ok-stmt.ensures.does) (rw w.in-Next.is (rw (w.m-is, w.files-is, w.tables-is, w.calls-is) at e))))) }
-      | in_default w ↦ record { goes_on = λ r u e. c.loop-item.invariant.goes_on r u (rw (front c.args.items.now c.loop-item.item-index c.item-item.result c.loop-item-test.true c.item-item.is) (does_is (ap (block (evals most_open)) (no_statement c.item-item.result (drop (c.loop-item.item-index + 1) c.args.items.now) w.in_default.not-Statement)) (rw (w.m-is, w.files-is, w.tables-is, w.calls-is) at e))) }
+      | in-Statement+in_ok-stmt+in-Next w ↦ record { goes_on = λ r u e. c.loop-item.invariant.goes_on r u (rw (front c.args.items.now c.loop-item.item-index c.item-item.result c.loop-item-test.true c.item-item.is) (rw w.in-Statement.is (does_next _ _ (w.in_ok-stmt.ensures.does) (rw w.in-Next.is (rw w.run-is at e))))) }
+      | in_default w ↦ record { goes_on = λ r u e. c.loop-item.invariant.goes_on r u (rw (front c.args.items.now c.loop-item.item-index c.item-item.result c.loop-item-test.true c.item-item.is) (does_is (ap (block (evals most_open)) (no_statement c.item-item.result (drop (c.loop-item.item-index + 1) c.args.items.now) w.in_default.not-Statement)) (rw w.run-is at e))) }
     ]
 
 pub returns : goal.returns

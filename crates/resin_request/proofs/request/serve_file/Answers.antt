@@ -1,4 +1,4 @@
-use Rattle.std.proofs.Common.{false, true}
+use Rattle.std.proofs.Common.{false}
 use Rattle.resin_program.proofs.Composition.{does_next, does_exit, does_give}
 use Rattle.resin_invoke.proofs.Arms.{does_yes, does_no}
 use Rattle.resin_request.proofs.request.serve_file.Goals as goal

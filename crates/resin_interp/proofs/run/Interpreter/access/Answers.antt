@@ -1,0 +1,32 @@
+use Rattle.std.proofs.Common.{sym, ap}
+use Rattle.resin_program.proofs.Composition.{does_next, does_exit, does_loosely}
+use Rattle.resin_invoke.proofs.Arms.{does_looked}
+use Rattle.resin_interp.proofs.Arms.{does_unlooked}
+use Rattle.resin_invoke.proofs.Exits.{does_is}
+use Rattle.resin_interp.proofs.Shapes.{index_means, property_means}
+use Rattle.resin_evaluation.specs.Programs.{evals}
+use Rattle.resin_interp.proofs.run.Interpreter.access.Goals as goal
+
+pub returns-in_err-v-in-Index : goal.returns-in_err-v-in-Index
+returns-in_err-v-in-Index g c =
+    does_is (index_means (evals c.args.self.now.by.now.room) c.args.a.now _ _ c.in-Index.is) (does_exit _ _ _ c.from_residual.ensures.1 (does_is (ap (evals c.args.self.now.by.now.room).expr (sym c.get.ensures)) c.in_err-v-in-Index.ensures.does))
+
+pub returns-in_err-k-in-Index : goal.returns-in_err-k-in-Index
+returns-in_err-k-in-Index g c =
+    does_is (index_means (evals c.args.self.now.by.now.room) c.args.a.now _ _ c.in-Index.is) (does_next _ _ (does_is (ap (evals c.args.self.now.by.now.room).expr (sym c.get.ensures)) c.in_ok-v-in-Index.ensures.does) (does_exit _ _ _ c.from_residual-in_err-k-in-Index.ensures.1 (does_is (ap (evals c.args.self.now.by.now.room).expr (sym c.get-in-Index.ensures)) c.in_err-k-in-Index.ensures.does)))
+
+pub returns-in_ok-k-in-Index : goal.returns-in_ok-k-in-Index
+returns-in_ok-k-in-Index g c =
+    does_is (index_means (evals c.args.self.now.by.now.room) c.args.a.now _ _ c.in-Index.is) (does_next _ _ (does_is (ap (evals c.args.self.now.by.now.room).expr (sym c.get.ensures)) c.in_ok-v-in-Index.ensures.does) (does_next _ _ (does_is (ap (evals c.args.self.now.by.now.room).expr (sym c.get-in-Index.ensures)) c.in_ok-k-in-Index.ensures.does) (does_loosely _ _ _ _ c.index_of.ensures.acts)))
+
+pub returns-in_err-v-in-Property : goal.returns-in_err-v-in-Property
+returns-in_err-v-in-Property g c =
+    does_is (property_means (evals c.args.self.now.by.now.room) c.args.a.now _ _ c.in-Property.is) (does_exit _ _ _ c.from_residual-in_err-v-in-Property.ensures.1 (does_is (ap (evals c.args.self.now.by.now.room).expr (sym c.get-in-Property.ensures)) c.in_err-v-in-Property.ensures.does))
+
+pub returns-in_err-property_of-in-Property : goal.returns-in_err-property_of-in-Property
+returns-in_err-property_of-in-Property g c =
+    does_is (property_means (evals c.args.self.now.by.now.room) c.args.a.now _ _ c.in-Property.is) (does_next _ _ (does_is (ap (evals c.args.self.now.by.now.room).expr (sym c.get-in-Property.ensures)) c.in_ok-v-in-Property.ensures.does) (does_unlooked _ _ c.from_residual-in_err-property_of-in-Property.ensures.1))
+
+pub returns-in_ok-property_of-in-Property : goal.returns-in_ok-property_of-in-Property
+returns-in_ok-property_of-in-Property g c =
+    does_is (property_means (evals c.args.self.now.by.now.room) c.args.a.now _ _ c.in-Property.is) (does_next _ _ (does_is (ap (evals c.args.self.now.by.now.room).expr (sym c.get-in-Property.ensures)) c.in_ok-v-in-Property.ensures.does) (does_looked _ _ (rw (c.as_slice.ensures) at c.in_ok-property_of-in-Property.ensures)))

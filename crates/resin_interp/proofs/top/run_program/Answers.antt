@@ -1,6 +1,0 @@
-use Rattle.resin_interp.proofs.Exits.{does_program}
-use Rattle.resin_interp.proofs.top.run_program.Goals as goal
-
-pub returns : goal.returns
-returns g c =
-    does_program _ _ c.program_end.ensures c.run_file-end.ensures
