@@ -3,7 +3,8 @@ use Rattle.std.proofs.Common.{◌≡◌, ℕ, ◌+◌, ◌<◌, Bool, true, fals
 use Rattle.std.proofs.Math.Seq.{drop-cons}
 use Rattle.httparse.specs.declared.spans.HeaderSpan.{HeaderSpan}
 use Rattle.httparse.specs.Spans.{header_bytes, span_bytes}
-use Rattle.resin_http.specs.Fields.{Pair, body_length, next_length, values_of, is_named}
+use Rattle.resin_http.specs.Fields.{Pair, body_length, next_length, values_of}
+use Rattle.resin_inputs.specs.Names.{is_named}
 
 -- the length of a body once a first `Content-Length` may have been read
 abbrev pub rest_length : Option ℕ → List (List ℕ) → Option ℕ

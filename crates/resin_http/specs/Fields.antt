@@ -2,11 +2,11 @@
 use Rattle.std.specs.Prelude.{ℕ, Bool, ◌&&◌, not, ◌==◌, nat_lt, nat_le, List, [], ◌∷◌, length, map, if◌then◌else◌, Option, Some, None, Result, Ok, Err, codes, filter}
 use Rattle.std.specs.List.{list_all, list_any, slice_index}
 use Rattle.std.specs.Char.{is_ascii_digit}
-use Rattle.std.specs.Str.{str_to_ascii_lowercase}
 use Rattle.std.specs.Str.Parse.{digits_value}
 use Rattle.httparse.specs.Grammar.{RequestHead}
 use Rattle.httparse.specs.Spans.{name_and_value}
 use Rattle.resin_inputs.specs.Under.bytes.declared.header.Header.{Header}
+use Rattle.resin_inputs.specs.Names.{is_named}
 use Rattle.resin_http.specs.declared.request.Method.{Method}
 use Rattle.resin_http.specs.declared.request.Method.TheVariants.{Get, Head, Post}
 use Rattle.resin_http.specs.Head.{same_bytes}
@@ -21,10 +21,6 @@ pairs_of head = map name_and_value head.fields
 
 abbrev pub header_of : Pair → Header
 header_of p = record { name = p.0; value = p.1 }
-
--- the name is this one, whatever the case of ASCII letters
-abbrev pub is_named : List ℕ → List ℕ → Bool
-is_named wanted name = same_bytes (str_to_ascii_lowercase name) (str_to_ascii_lowercase wanted)
 
 -- the values of the fields of that name, in order
 abbrev pub values_of : List ℕ → List Pair → List (List ℕ)

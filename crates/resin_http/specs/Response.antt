@@ -3,7 +3,7 @@ use Rattle.std.specs.Prelude.{ℕ, Bool, ◌&&◌, nat_lt, nat_le, List, [], ◌
 use Rattle.std.specs.List.{flat_map, list_any}
 use Rattle.http.specs.StatusCode.{reason_phrase}
 use Rattle.resin_inputs.specs.Under.bytes.declared.header.Header.{Header}
-use Rattle.resin_http.specs.Fields.{is_named}
+use Rattle.resin_inputs.specs.Names.{is_named}
 
 -- the canonical phrase of a status, empty where it has none
 unfoldable pub phrase_of : ℕ → List ℕ

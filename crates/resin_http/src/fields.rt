@@ -1,10 +1,11 @@
 //! What the fields of a head say of its request.
 ghost use Rattle.std.specs.Prelude.{◌≡◌, ℕ, ◌≤◌, length, map, All, IfOk, List, IfSome, ◌^◌, ◌<◌};
 ghost use Rattle.httparse.specs.Spans.{IsHeaderWithin, header_bytes};
-ghost use Rattle.resin_http.specs.Fields.{body_length, values_of, content_length, has_field, is_named, length_of, next_length, method_of, taken, header_of, begins_with_slash};
+ghost use Rattle.resin_http.specs.Fields.{body_length, values_of, content_length, has_field, length_of, next_length, method_of, taken, header_of, begins_with_slash};
 
 use crate::request::Method;
 use httparse::spans::HeaderSpan;
+use resin_inputs::is_named;
 use resin_inputs::under::bytes::{Bytes, Header, HeaderList};
 use std::alloc::{AllocError, Global};
 
@@ -98,13 +99,6 @@ fn has_field(head: &[u8], fields: &[HeaderSpan], name: &[u8]) -> bool
         }
     }
     false
-}
-
-/// Whether a name is this one, whatever the case of ASCII letters.
-pub fn is_named(name: &[u8], wanted: &[u8]) -> bool
-    ensures { result ≡ is_named wanted.now name.now }
-{
-    name.eq_ignore_ascii_case(wanted)
 }
 
 // The number of one to ten digits.

@@ -4,9 +4,9 @@ ghost use Rattle.http.specs.StatusCode.{reason_phrase};
 ghost use Rattle.std.specs.List.{flat_map};
 ghost use Rattle.resin_http.specs.Response.{response, phrase_of, status_line, type_line, kind_line, has_type, header_line, length_line};
 
-use crate::fields::is_named;
 use http::StatusCode;
 use itoa::Buffer;
+use resin_inputs::is_named;
 use resin_inputs::under::bytes::{Bytes, Header, HeaderList};
 use std::alloc::{AllocError, Global};
 

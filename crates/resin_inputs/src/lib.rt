@@ -12,3 +12,4 @@ pub mod under;
 
 pub use arrays::{InputArrays, input_arrays};
 pub use laws::entry_law;
+pub use names::is_named;

@@ -10,7 +10,7 @@ use resin_value::Key;
 use std::alloc::{AllocError, Global};
 
 /// Whether the name of a field is this one, whatever the case of ASCII letters.
-pub(crate) fn is_named(name: &[u8], wanted: &[u8]) -> bool
+pub fn is_named(name: &[u8], wanted: &[u8]) -> bool
     ensures { result ≡ is_named wanted.now name.now }
 {
     name.eq_ignore_ascii_case(wanted)

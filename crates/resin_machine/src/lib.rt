@@ -5,7 +5,6 @@ mod filters;
 mod fuel;
 mod leaving;
 mod machine;
-mod names;
 mod objects;
 mod stop;
 mod thrown;

@@ -7,14 +7,13 @@ ghost use Rattle.resin_stage.specs.Writes.{IsLawful};
 ghost use Rattle.resin_machine.specs.State.{new_state, empty_arrays, input_names};
 ghost use Rattle.resin_machine.specs.Keeping.{Tied};
 
-use crate::names::NameMap;
 use crate::stop::Stop;
 use resin_heap::under::scalar::{ScriptFault, Ticks};
 use resin_heap::under::tree::Function;
 use resin_heap::under::value::{Arr, Value};
 use resin_heap::{Classes, Heap};
 use resin_stage::Stage;
-use resin_stage::under::scope::{Chains, Scopes};
+use resin_stage::under::scope::{Chains, NameMap, Scopes};
 use std::alloc::{AllocError, Global};
 use std::marker::Model;
 

@@ -8,5 +8,6 @@ mod scopes;
 pub mod under;
 
 pub use chains::Chains;
+pub use names::NameMap;
 pub use page::Page;
 pub use scopes::Scopes;

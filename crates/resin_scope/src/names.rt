@@ -11,7 +11,7 @@ use std::mem;
 
 /// What each of some names stands for. A name is found by a hash of its bytes; no order of the names shows.
 #[derive(Drop)]
-pub(crate) struct NameMap<V> {
+pub struct NameMap<V> {
     alloc: Global,
     values: HashMap<Vec<u8>, V>,
 }
@@ -29,7 +29,7 @@ impl<V> Model for NameMap<V> {
 
 impl<V: Drop> NameMap<V> {
     /// No names. It takes no memory.
-    pub(crate) fn new(alloc: Global) -> NameMap<V>
+    pub fn new(alloc: Global) -> NameMap<V>
         ensures { result ≡ empty }
     {
         NameMap {
@@ -39,21 +39,21 @@ impl<V: Drop> NameMap<V> {
     }
 
     /// What a name stands for.
-    pub(crate) fn get(&self, name: &[u8]) -> Option<&V>
+    pub fn get(&self, name: &[u8]) -> Option<&V>
         ensures { option_copied result ≡ get self.now name.now }
     {
         self.values.get(name)
     }
 
     /// Whether a name stands for something.
-    pub(crate) fn has(&self, name: &[u8]) -> bool
+    pub fn has(&self, name: &[u8]) -> bool
         ensures { result ≡ contains_key self.now name.now }
     {
         self.get(name).is_some()
     }
 
     /// Lets a name stand for a value. After want of memory the map is as before.
-    pub(crate) fn put(&mut self, name: &[u8], value: V) -> Result<(), AllocError>
+    pub fn put(&mut self, name: &[u8], value: V) -> Result<(), AllocError>
         ensures ok { OnOk result (self.new ≡ insert self.old name.now value) }
         ensures err { OnErr result (self.new ≡ self.old) }
     {
@@ -75,7 +75,7 @@ impl<V: Drop> NameMap<V> {
     }
 
     /// Puts a value in the place of that of a name, and answers the old one. It takes no memory.
-    pub(crate) fn exchange(&mut self, name: &[u8], value: V) -> V
+    pub fn exchange(&mut self, name: &[u8], value: V) -> V
         requires { IsTrue (contains_key self.old name.now) }
         ensures was { get self.old name.now ≡ Some result }
         ensures after { self.new ≡ insert self.old name.now value }
@@ -87,7 +87,7 @@ impl<V: Drop> NameMap<V> {
     }
 
     /// Takes a name out. It takes no memory.
-    pub(crate) fn remove(&mut self, name: &[u8])
+    pub fn remove(&mut self, name: &[u8])
         ensures { self.new ≡ remove self.old name.now }
     {
         let _value = self.values.remove(name);

@@ -17,13 +17,7 @@ use Rattle.resin_machine.specs.State.{State}
 use Rattle.resin_machine.specs.Objects.{is_object}
 use Rattle.resin_ops.specs.Conversions.{key_of}
 use Rattle.resin_ops.specs.Places.{indexed}
-
--- the answer is the rule's: its value, its throw or its fault; want of memory may stand in the place of any
-abbrev pub GivesOrNoMemory : {X : Type 0} → Result X CallStop → Result X CallStop → Type 0
-GivesOrNoMemory (Ok x) rule = rule ≡ Ok x
-GivesOrNoMemory (Err (Throw kind)) rule = rule ≡ Err (Throw kind)
-GivesOrNoMemory (Err (CallFault fault)) rule = rule ≡ Err (CallFault fault)
-GivesOrNoMemory (Err CallMemory) rule = Unit {0}
+pub use Rattle.resin_ops.specs.Under.scalar.Stops.{GivesOrNoMemory}
 
 -- goes on with a value
 abbrev pub on : {A B : Type 0} → Result A CallStop → (A → Result B CallStop) → Result B CallStop

@@ -6,6 +6,7 @@ use Rattle.resin_lstr.specs.declared.text.TextFault.TheVariants.{TooLong, Memory
 use Rattle.resin_scalar.specs.declared.faults.CallStop.{CallStop}
 use Rattle.resin_scalar.specs.declared.faults.CallStop.TheVariants.{Throw, Fault, Memory}
 use Rattle.resin_scalar.specs.declared.faults.ScriptFault.TheVariants.{TextTooLong}
+pub use Rattle.resin_scalar.specs.Stops.{GivesOrNoMemory}
 
 -- the text where it is at most 16,777,216 bytes long, else the fault TextTooLong (this project's limit)
 abbrev pub fitting : Text → Result Text CallStop
@@ -15,13 +16,6 @@ fitting t = if nat_le (length t) LONGEST then Ok t else Err (Fault TextTooLong)
 abbrev pub text_stop : TextFault → CallStop
 text_stop TooLong = Fault TextTooLong
 text_stop NoMemory = Memory
-
--- the answer is the rule's: its value, its throw or its fault; want of memory may stand in the place of any
-abbrev pub GivesOrNoMemory : {X : Type 0} → Result X CallStop → Result X CallStop → Type 0
-GivesOrNoMemory (Ok x) rule = rule ≡ Ok x
-GivesOrNoMemory (Err (Throw kind)) rule = rule ≡ Err (Throw kind)
-GivesOrNoMemory (Err (Fault fault)) rule = rule ≡ Err (Fault fault)
-GivesOrNoMemory (Err Memory) rule = Unit {0}
 
 -- the same of a rule that also says how many ticks it leaves
 abbrev pub GivesCharged : {X : Type 0} → Result X CallStop → ℕ → Result X CallStop × ℕ → Type 0
