@@ -140,8 +140,12 @@ impl Gathering {
             self.end_row()?;
             self.number = number;
         }
-        if record.get::<u64>(1)? == 0 && self.width == 0 {
+        let column = record.get::<u64>(1)?;
+        if column == 0 && self.width == 0 {
             return Ok(());
+        }
+        if u64::try_from(self.cells.as_slice().len().saturating_add(1)) != Ok(column) {
+            return Err(DatabaseFault::NotARow);
         }
         self.cells.push(cell_of(self.alloc, record.get_ref(2)?)?)?;
         Ok(())
