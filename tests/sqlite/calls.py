@@ -2,8 +2,8 @@
 """calls.py FOLDER: writes the rows of resin_sqlite_table into FOLDER/stdin and FOLDER/stdout.
 
 The answers are those of the tables below, which are written from what docs/FORMATS.md and the trait `Tables` say of each call, and share
-nothing with the program. Most rows are 2,000 calls drawn by a fixed seed, with the file opened again after each 100; the rest are edges,
-and the files of data/, which files.py makes."""
+nothing with the program. Most rows are calls drawn by a fixed seed, with the file opened again after each 100; the rest are edges, and
+the files of data/, which files.py makes. test_sqlite.py draws more."""
 import os
 import random
 import sys
@@ -201,10 +201,11 @@ def broken_files(script):
     script.open("empty.db")
     script.rows(b"t")
     no = "the file is no database, or its rows break the rules of their tables"
-    for name in ("text.db", "cut.db", "orphan.db", "number.db"):
+    for name in ("text.db", "orphan.db", "number.db"):
         script.open(name, no)
         script.say("rows t", "not open")
         script.say("again", no)
+    script.open("cut.db", "the file is damaged")
     for name in ("other.db", "old.db", "part.db"):
         script.open(name, "the file holds other tables than those of a site")
     for name in ("missing/resin.db", "folder.db"):
@@ -226,7 +227,7 @@ def main(folder):
     script = Script()
     edges(script)
     script.open("drawn.db")
-    draw_calls(script, 2000, 30)
+    draw_calls(script, 600, 30)
     broken_files(script)
     for name, lines in (("stdin", script.calls), ("stdout", script.answers)):
         with open(os.path.join(folder, name), "w", newline="\n") as out:

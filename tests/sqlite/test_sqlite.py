@@ -32,6 +32,11 @@ def drawn(count, seed, path="resin.db"):
     return script
 
 
+def content(path):
+    with open(path, "rb") as file:
+        return file.read()
+
+
 class Answering:
     """A program that answers call by call."""
 
@@ -81,7 +86,7 @@ class Database(unittest.TestCase):
         return tables
 
     def test_sqlite_reads_what_calls_left(self):
-        script = drawn(1500, 1)
+        script = drawn(2000, 1)
         self.assertEqual(self.run_calls(script.calls), script.answers)
         self.assertEqual(self.stored(), script.tables.tables)
 
@@ -144,21 +149,21 @@ class Database(unittest.TestCase):
         os.remove(self.path + "-wal")
         for path, mode in ((self.path, 0o444), (self.folder, 0o555)):
             os.chmod(path, mode)
-        before = open(self.path, "rb").read()
+        before = content(self.path)
         how = {"user": 65534, "group": 65534} if os.getuid() == 0 else {}
         answers = self.run_calls(["open resin.db", "open new.db"], **how)
         os.chmod(self.folder, 0o755)
         no = "the file can't be opened: it or its folder is missing, or may not be read and written"
         self.assertEqual(answers, [no, no])
-        self.assertEqual(open(self.path, "rb").read(), before)
+        self.assertEqual(content(self.path), before)
 
     def test_refused_files_are_left_as_they_were(self):
         files.main(self.folder)
         for name in ("text.db", "cut.db", "orphan.db", "number.db", "other.db", "old.db", "part.db"):
             path = os.path.join(self.folder, name)
-            before = open(path, "rb").read()
+            before = content(path)
             self.assertNotIn("open", self.run_calls([f"open {name}", "create t T:a"]))
-            self.assertEqual(open(path, "rb").read(), before, name)
+            self.assertEqual(content(path), before, name)
 
     def test_a_full_disk_leaves_whole_calls(self):
         def small():

@@ -18,7 +18,7 @@ pub enum DatabaseFault {
     NotADatabase,
     /// The file holds other tables than these.
     OtherSchema,
-    /// What is read from the file isn't what was written to it.
+    /// The file was cut off, or what is read from it isn't what was written to it.
     Damaged,
     /// A row of the file doesn't have exactly one cell for each column of its table, or a cell of another kind.
     NotARow,
@@ -61,7 +61,7 @@ impl DatabaseFault {
             DatabaseFault::NotADatabase =>
                 "the file is no database, or its rows break the rules of their tables",
             DatabaseFault::OtherSchema => "the file holds other tables than those of a site",
-            DatabaseFault::Damaged => "what is read from the file isn't what was written to it",
+            DatabaseFault::Damaged => "the file is damaged",
             DatabaseFault::NotARow =>
                 "a row doesn't have exactly one cell for each column of its table",
             DatabaseFault::Full => "the disk or the file is full",

@@ -76,7 +76,7 @@ impl SqliteTables {
 }
 
 impl Tables for SqliteTables {
-    ghost use Rattle.std.specs.Prelude.{None, tt};
+    ghost use Rattle.std.specs.Prelude.{None};
 
     ghost stored = { λ _. None };
 
@@ -105,14 +105,7 @@ impl Tables for SqliteTables {
     }
 
     fn update(&mut self, name: &[u8], row: u64, cells: &Cells) -> Result<bool, KeepFault> {
-        let answer = writes::update(
-            &mut self.conn,
-            &self.reads,
-            &self.writes,
-            name,
-            row,
-            cells,
-        );
+        let answer = writes::update(&mut self.conn, &self.reads, &self.writes, name, row, cells);
         self.counted(answer)
     }
 

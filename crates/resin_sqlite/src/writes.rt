@@ -61,7 +61,12 @@ fn add_cell<S: Alter>(
 ) -> Result<(), DatabaseFault> {
     group.execute_prepared(
         &writes.add_cell,
-        &[text_value(name), ValueRef::Int(number), number_value(column), value],
+        &[
+            text_value(name),
+            ValueRef::Int(number),
+            number_value(column),
+            value,
+        ],
     )?;
     Ok(())
 }
