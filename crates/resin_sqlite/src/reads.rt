@@ -2,29 +2,29 @@
 
 use crate::cells::{cell_of, kind_of, text_of, text_value};
 use crate::fault::DatabaseFault;
-use crate::statements::Reads;
+use crate::statements::{COUNT_COLUMNS, FIND_ROW, FIND_TABLE, LAST_ROW, LIST_CELLS, LIST_COLUMNS};
 use resin_base::{Cells, Column, Columns, Row, Rows};
 use sqlite::types::ValueRef;
-use sqlite::{Alter, Connection, Row as Record, Statement};
+use sqlite::{Alter, Connection, Row as Record};
 use std::alloc::Global;
 
 // Whether a query has a row.
 fn is_found<S: Alter>(
     conn: &mut Connection<S>,
-    query: &Statement,
+    query: &str,
     params: &[ValueRef<'_>],
 ) -> Result<bool, DatabaseFault> {
-    let rows = query.query_all(conn, params)?;
+    let rows = conn.query_all(query, params)?;
     Ok(!rows.is_empty())
 }
 
 // The number in the first row of a query, if it has one.
 fn number<S: Alter>(
     conn: &mut Connection<S>,
-    query: &Statement,
+    query: &str,
     params: &[ValueRef<'_>],
 ) -> Result<Option<u64>, DatabaseFault> {
-    let rows = query.query_all(conn, params)?;
+    let rows = conn.query_all(query, params)?;
     match rows.first() {
         Some(row) => Ok(Some(row.get::<u64>(0)?)),
         None => Ok(None),
@@ -34,52 +34,44 @@ fn number<S: Alter>(
 /// Whether a table is there.
 pub(crate) fn has_table<S: Alter>(
     conn: &mut Connection<S>,
-    reads: &Reads,
     name: &[u8],
 ) -> Result<bool, DatabaseFault> {
-    is_found(conn, &reads.table, &[text_value(name)])
+    is_found(conn, FIND_TABLE, &[text_value(name)])
 }
 
 /// Whether a table has a row.
 pub(crate) fn has_row<S: Alter>(
     conn: &mut Connection<S>,
-    reads: &Reads,
     name: &[u8],
     number: i64,
 ) -> Result<bool, DatabaseFault> {
-    is_found(conn, &reads.row, &[text_value(name), ValueRef::Int(number)])
+    is_found(conn, FIND_ROW, &[text_value(name), ValueRef::Int(number)])
 }
 
 /// How many columns a table has, 0 where it isn't there.
-pub(crate) fn width<S: Alter>(
-    conn: &mut Connection<S>,
-    reads: &Reads,
-    name: &[u8],
-) -> Result<u64, DatabaseFault> {
-    Ok(number(conn, &reads.width, &[text_value(name)])?.unwrap_or(0))
+pub(crate) fn width<S: Alter>(conn: &mut Connection<S>, name: &[u8]) -> Result<u64, DatabaseFault> {
+    Ok(number(conn, COUNT_COLUMNS, &[text_value(name)])?.unwrap_or(0))
 }
 
 /// Whether a table is there that these cells fit.
 pub(crate) fn fits<S: Alter>(
     conn: &mut Connection<S>,
-    reads: &Reads,
     name: &[u8],
     cells: &Cells,
 ) -> Result<bool, DatabaseFault> {
-    if !has_table(conn, reads, name)? {
+    if !has_table(conn, name)? {
         return Ok(false);
     }
-    let width = width(conn, reads, name)?;
+    let width = width(conn, name)?;
     Ok(u64::try_from(cells.as_slice().len()) == Ok(width))
 }
 
 /// The largest number of a row, 0 where there is none.
 pub(crate) fn last_row<S: Alter>(
     conn: &mut Connection<S>,
-    reads: &Reads,
     name: &[u8],
 ) -> Result<u64, DatabaseFault> {
-    Ok(number(conn, &reads.last_row, &[text_value(name)])?.unwrap_or(0))
+    Ok(number(conn, LAST_ROW, &[text_value(name)])?.unwrap_or(0))
 }
 
 // The column that a record is.
@@ -94,14 +86,13 @@ fn column_of(alloc: Global, record: &Record) -> Result<Column, DatabaseFault> {
 pub(crate) fn columns<S: Alter>(
     alloc: Global,
     conn: &mut Connection<S>,
-    reads: &Reads,
     name: &[u8],
 ) -> Result<Option<Columns>, DatabaseFault> {
-    if !has_table(conn, reads, name)? {
+    if !has_table(conn, name)? {
         return Ok(None);
     }
     let mut columns = Columns::new(alloc);
-    for record in &reads.columns.query_all(conn, &[text_value(name)])? {
+    for record in &conn.query_all(LIST_COLUMNS, &[text_value(name)])? {
         columns.push(column_of(alloc, record)?)?;
     }
     Ok(Some(columns))
@@ -155,11 +146,10 @@ impl Gathering {
 // Takes all cells of a table.
 fn gather<S: Alter>(
     conn: &mut Connection<S>,
-    reads: &Reads,
     name: &[u8],
     gathering: &mut Gathering,
 ) -> Result<(), DatabaseFault> {
-    let mut records = reads.cells.query(conn, &[text_value(name)])?;
+    let mut records = conn.query(LIST_CELLS, &[text_value(name)])?;
     for _ in 0..u64::MAX {
         match records.next()? {
             Some(record) => gathering.take(record)?,
@@ -173,17 +163,16 @@ fn gather<S: Alter>(
 pub(crate) fn rows<S: Alter>(
     alloc: Global,
     conn: &mut Connection<S>,
-    reads: &Reads,
     name: &[u8],
 ) -> Result<Rows, DatabaseFault> {
     let mut gathering = Gathering {
         alloc,
-        width: width(conn, reads, name)?,
+        width: width(conn, name)?,
         rows: Rows::new(alloc),
         number: 0,
         cells: Cells::new(alloc),
     };
-    gather(conn, reads, name, &mut gathering)?;
+    gather(conn, name, &mut gathering)?;
     gathering.end_row()?;
     let Gathering { rows, .. } = gathering;
     Ok(rows)

@@ -1,6 +1,7 @@
 //! The tables of the file.
 
 use crate::fault::DatabaseFault;
+use crate::statements::prepare;
 use sqlite::types::ValueRef;
 use sqlite::{Alter, Connection, Row};
 
@@ -58,8 +59,8 @@ fn make<S: Alter>(conn: &mut Connection<S>) -> Result<(), DatabaseFault> {
     Ok(())
 }
 
-/// Makes the tables in a file that holds nothing, and else sees that they are there.
-pub(crate) fn settle<S: Alter>(conn: &mut Connection<S>) -> Result<(), DatabaseFault> {
+// Makes the tables in a file that holds nothing, and else sees that they are there.
+fn make_or_find<S: Alter>(conn: &mut Connection<S>) -> Result<(), DatabaseFault> {
     let found = conn.query_all("SELECT sql FROM sqlite_schema", &[])?;
     if found.is_empty() {
         return make(conn);
@@ -69,4 +70,10 @@ pub(crate) fn settle<S: Alter>(conn: &mut Connection<S>) -> Result<(), DatabaseF
     } else {
         Err(DatabaseFault::OtherSchema)
     }
+}
+
+/// Makes the tables in a file that holds nothing, else sees that they are there, and plans the statements over them.
+pub(crate) fn settle<S: Alter>(conn: &mut Connection<S>) -> Result<(), DatabaseFault> {
+    make_or_find(conn)?;
+    prepare(conn)
 }

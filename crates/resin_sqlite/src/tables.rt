@@ -2,7 +2,6 @@
 ghost use Rattle.resin_base.specs.Causes.{HasCause};
 
 use crate::fault::DatabaseFault;
-use crate::statements::{Reads, Writes};
 use crate::{reads, schema, writes};
 use resin_base::{Cells, Columns, KeepFault, Rows, Tables};
 use sqlite::{Connection, File, FileStore};
@@ -15,8 +14,6 @@ use std::rt::HostRuntime;
 pub struct SqliteTables {
     alloc: Global,
     conn: Connection<FileStore<File>>,
-    reads: Reads,
-    writes: Writes,
     faults: u64,
     last_fault: Option<DatabaseFault>,
 }
@@ -26,8 +23,6 @@ impl Drop for SqliteTables {
         let SqliteTables {
             alloc: _,
             conn,
-            reads: _,
-            writes: _,
             faults: _,
             last_fault: _,
         } = self;
@@ -42,13 +37,9 @@ impl SqliteTables {
     pub fn open(rt: &HostRuntime, path: &str) -> Result<SqliteTables, DatabaseFault> {
         let mut conn = Connection::open(rt, path)?;
         schema::settle(&mut conn)?;
-        let reads = Reads::prepare(&mut conn)?;
-        let writes = Writes::prepare(&mut conn)?;
         Ok(SqliteTables {
             alloc: rt.alloc(),
             conn,
-            reads,
-            writes,
             faults: 0,
             last_fault: None,
         })
@@ -85,32 +76,32 @@ impl Tables for SqliteTables {
     ghost answers = { λ _. None };
 
     fn create(&mut self, name: &[u8], columns: &Columns) -> Result<bool, KeepFault> {
-        let answer = writes::create(&mut self.conn, &self.reads, &self.writes, name, columns);
+        let answer = writes::create(&mut self.conn, name, columns);
         self.counted(answer)
     }
 
     fn columns(&mut self, name: &[u8]) -> Result<Option<Columns>, KeepFault> {
-        let answer = reads::columns(self.alloc, &mut self.conn, &self.reads, name);
+        let answer = reads::columns(self.alloc, &mut self.conn, name);
         self.counted(answer)
     }
 
     fn rows(&mut self, name: &[u8]) -> Result<Rows, KeepFault> {
-        let answer = reads::rows(self.alloc, &mut self.conn, &self.reads, name);
+        let answer = reads::rows(self.alloc, &mut self.conn, name);
         self.counted(answer)
     }
 
     fn insert(&mut self, name: &[u8], cells: &Cells) -> Result<Option<u64>, KeepFault> {
-        let answer = writes::insert(&mut self.conn, &self.reads, &self.writes, name, cells);
+        let answer = writes::insert(&mut self.conn, name, cells);
         self.counted(answer)
     }
 
     fn update(&mut self, name: &[u8], row: u64, cells: &Cells) -> Result<bool, KeepFault> {
-        let answer = writes::update(&mut self.conn, &self.reads, &self.writes, name, row, cells);
+        let answer = writes::update(&mut self.conn, name, row, cells);
         self.counted(answer)
     }
 
     fn delete(&mut self, name: &[u8], row: u64) -> Result<bool, KeepFault> {
-        let answer = writes::delete(&mut self.conn, &self.writes, name, row);
+        let answer = writes::delete(&mut self.conn, name, row);
         self.counted(answer)
     }
 

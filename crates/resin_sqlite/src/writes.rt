@@ -3,21 +3,20 @@
 use crate::cells::{cell_value, kind_value, number_value, text_value};
 use crate::fault::DatabaseFault;
 use crate::reads::{fits, has_row, has_table, last_row};
-use crate::statements::{Reads, Writes};
+use crate::statements::{ADD_CELL, ADD_COLUMN, ADD_TABLE, DELETE_ROW, SET_CELL};
 use resin_base::{Cells, Columns};
 use sqlite::types::ValueRef;
 use sqlite::{Alter, Connection, Transaction};
 
 // The columns of a new table, numbered from 1.
-fn add_columns<S: Alter>(
+fn add_columns<'x, S: Alter>(
     group: &mut Transaction<'_, S>,
-    writes: &Writes,
-    name: &[u8],
-    columns: &Columns,
+    name: &'x [u8],
+    columns: &'x Columns,
 ) -> Result<(), DatabaseFault> {
     for (i, column) in columns.as_slice().iter().enumerate() {
-        group.execute_prepared(
-            &writes.add_column,
+        group.execute(
+            ADD_COLUMN,
             &[
                 text_value(name),
                 number_value(i.saturating_add(1)),
@@ -32,35 +31,32 @@ fn add_columns<S: Alter>(
 /// Makes a table without rows, unless it is there.
 pub(crate) fn create<S: Alter>(
     conn: &mut Connection<S>,
-    reads: &Reads,
-    writes: &Writes,
     name: &[u8],
     columns: &Columns,
 ) -> Result<bool, DatabaseFault> {
-    if has_table(conn, reads, name)? {
+    if has_table(conn, name)? {
         return Ok(false);
     }
     if !conn.is_autocommit() {
         return Err(DatabaseFault::Refused);
     }
     let mut group = conn.transaction();
-    group.execute_prepared(&writes.add_table, &[text_value(name)])?;
-    add_columns(&mut group, writes, name, columns)?;
+    group.execute(ADD_TABLE, &[text_value(name)])?;
+    add_columns(&mut group, name, columns)?;
     group.commit()?;
     Ok(true)
 }
 
 // Adds a cell.
-fn add_cell<S: Alter>(
+fn add_cell<'x, S: Alter>(
     group: &mut Transaction<'_, S>,
-    writes: &Writes,
-    name: &[u8],
+    name: &'x [u8],
     number: i64,
     column: usize,
-    value: ValueRef<'_>,
+    value: ValueRef<'x>,
 ) -> Result<(), DatabaseFault> {
-    group.execute_prepared(
-        &writes.add_cell,
+    group.execute(
+        ADD_CELL,
         &[
             text_value(name),
             ValueRef::Int(number),
@@ -72,25 +68,17 @@ fn add_cell<S: Alter>(
 }
 
 // The cells of a new row, by columns from 1. A row without cells has one in the place of a column 0.
-fn add_cells<S: Alter>(
+fn add_cells<'x, S: Alter>(
     group: &mut Transaction<'_, S>,
-    writes: &Writes,
-    name: &[u8],
+    name: &'x [u8],
     number: i64,
-    cells: &Cells,
+    cells: &'x Cells,
 ) -> Result<(), DatabaseFault> {
     if cells.as_slice().is_empty() {
-        return add_cell(group, writes, name, number, 0, ValueRef::Null);
+        return add_cell(group, name, number, 0, ValueRef::Null);
     }
     for (i, cell) in cells.as_slice().iter().enumerate() {
-        add_cell(
-            group,
-            writes,
-            name,
-            number,
-            i.saturating_add(1),
-            cell_value(cell),
-        )?;
+        add_cell(group, name, number, i.saturating_add(1), cell_value(cell))?;
     }
     Ok(())
 }
@@ -103,15 +91,13 @@ fn next_number(last: u64) -> Option<i64> {
 /// Puts a row last, and answers its number.
 pub(crate) fn insert<S: Alter>(
     conn: &mut Connection<S>,
-    reads: &Reads,
-    writes: &Writes,
     name: &[u8],
     cells: &Cells,
 ) -> Result<Option<u64>, DatabaseFault> {
-    if !fits(conn, reads, name, cells)? {
+    if !fits(conn, name, cells)? {
         return Ok(None);
     }
-    let last = last_row(conn, reads, name)?;
+    let last = last_row(conn, name)?;
     let Some(number) = next_number(last) else {
         return Ok(None);
     };
@@ -119,22 +105,21 @@ pub(crate) fn insert<S: Alter>(
         return Err(DatabaseFault::Refused);
     }
     let mut group = conn.transaction();
-    add_cells(&mut group, writes, name, number, cells)?;
+    add_cells(&mut group, name, number, cells)?;
     group.commit()?;
     Ok(Some(last.saturating_add(1)))
 }
 
 // Sets the cells of a row.
-fn set_cells<S: Alter>(
+fn set_cells<'x, S: Alter>(
     group: &mut Transaction<'_, S>,
-    writes: &Writes,
-    name: &[u8],
+    name: &'x [u8],
     number: i64,
-    cells: &Cells,
+    cells: &'x Cells,
 ) -> Result<(), DatabaseFault> {
     for (i, cell) in cells.as_slice().iter().enumerate() {
-        let changed = group.execute_prepared(
-            &writes.set_cell,
+        let changed = group.execute(
+            SET_CELL,
             &[
                 text_value(name),
                 ValueRef::Int(number),
@@ -152,8 +137,6 @@ fn set_cells<S: Alter>(
 /// Sets the cells of a row, and answers whether it was there and they fit.
 pub(crate) fn update<S: Alter>(
     conn: &mut Connection<S>,
-    reads: &Reads,
-    writes: &Writes,
     name: &[u8],
     row: u64,
     cells: &Cells,
@@ -161,14 +144,14 @@ pub(crate) fn update<S: Alter>(
     let Ok(number) = i64::try_from(row) else {
         return Ok(false);
     };
-    if !has_row(conn, reads, name, number)? || !fits(conn, reads, name, cells)? {
+    if !has_row(conn, name, number)? || !fits(conn, name, cells)? {
         return Ok(false);
     }
     if !conn.is_autocommit() {
         return Err(DatabaseFault::Refused);
     }
     let mut group = conn.transaction();
-    set_cells(&mut group, writes, name, number, cells)?;
+    set_cells(&mut group, name, number, cells)?;
     group.commit()?;
     Ok(true)
 }
@@ -176,15 +159,12 @@ pub(crate) fn update<S: Alter>(
 /// Takes a row out, and answers whether it was there.
 pub(crate) fn delete<S: Alter>(
     conn: &mut Connection<S>,
-    writes: &Writes,
     name: &[u8],
     row: u64,
 ) -> Result<bool, DatabaseFault> {
     let Ok(number) = i64::try_from(row) else {
         return Ok(false);
     };
-    let count = writes
-        .delete_row
-        .execute(conn, &[text_value(name), ValueRef::Int(number)])?;
+    let count = conn.execute(DELETE_ROW, &[text_value(name), ValueRef::Int(number)])?;
     Ok(count > 0)
 }
