@@ -4,7 +4,7 @@ ghost use Rattle.resin_base.specs.Causes.{HasCause};
 use crate::fault::DatabaseFault;
 use crate::{reads, schema, writes};
 use resin_base::{Cells, Columns, KeepFault, Rows, Tables};
-use sqlite::{Connection, File, FileStore};
+use sqlite::{Alter, Connection, File, FileStore};
 use std::alloc::Global;
 use std::rt::HostRuntime;
 
@@ -31,12 +31,17 @@ impl Drop for SqliteTables {
     }
 }
 
+// The connection, once the tables of the schema are there. Any store serves, so that what a file is doesn't weigh on the proof.
+fn settled<S: Alter + Drop>(mut conn: Connection<S>) -> Result<Connection<S>, DatabaseFault> {
+    schema::settle(&mut conn)?;
+    Ok(conn)
+}
+
 impl SqliteTables {
     /// Opens a database file at a path of the system, or makes it. A new file, and one that holds nothing, gets the tables of the schema.
     /// A file that can't be opened, is no database, is in use, or holds other tables is left as it is.
     pub fn open(rt: &HostRuntime, path: &str) -> Result<SqliteTables, DatabaseFault> {
-        let mut conn = Connection::open(rt, path)?;
-        schema::settle(&mut conn)?;
+        let conn = settled(Connection::open(rt, path)?)?;
         Ok(SqliteTables {
             alloc: rt.alloc(),
             conn,
