@@ -116,7 +116,7 @@ class Tables(unittest.TestCase):
         self.assertEqual(set(re.findall(r"`(\w+)`", text[1])), CONSTANTS)
 
     def test_the_crates_have_the_names(self):
-        functions = {name for crate in ("resin_builtin", "resin_steps") for name in re.findall(r'spells\(b"(\w+)"', self.source(crate, "names.rt"))}
+        functions = {name for crate in ("resin_builtin", "resin_step_parts") for name in re.findall(r'spells\(b"(\w+)"', self.source(crate, "names.rt"))}
         self.assertEqual(functions, FUNCTIONS)
         self.assertEqual(set(re.findall(r'PreludeClass::\w+ => "(\w+)"', self.source("resin_heap", "prelude.rt"))), CLASSES)
 

@@ -5,3 +5,4 @@ pub mod Following
 pub mod Told
 pub mod Runs
 pub mod Progress
+pub mod Under

@@ -10,6 +10,7 @@ mod laws;
 mod progress;
 mod rest;
 mod stop;
+pub mod under;
 mod verdict;
 
 pub use checker::audit;

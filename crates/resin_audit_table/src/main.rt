@@ -17,9 +17,9 @@ mod events;
 mod texts;
 
 use crate::texts::{bytes_in, push_bytes};
+use resin_audit::under::journal_file::journal_text;
 use resin_audit::{Verdict, audit};
 use resin_bytes::Bytes;
-use resin_journal_file::journal_text;
 use std::alloc::{AllocError, Global};
 use std::io;
 

@@ -3,13 +3,13 @@ ghost use Rattle.std.specs.Prelude.{◌≡◌, ◌&&◌};
 ghost use Rattle.std.specs.List.{list_all};
 ghost use Rattle.std.specs.Option.{option_map_or};
 ghost use Rattle.std.specs.Prelude.{true};
-ghost use Rattle.resin_evaluation.specs.Built.{is_kept, is_built_name, expr_is_built, target_is_built, simple_is_built, stmt_is_built, function_is_built, item_is_built, is_built};
+ghost use Rattle.resin_step_parts.specs.Under.meaning_forms.Built.{is_kept, is_built_name, expr_is_built, target_is_built, simple_is_built, stmt_is_built, function_is_built, item_is_built, is_built};
 ghost use Rattle.resin_built.specs.BuiltParts.{access_is_built, array_item_is_built, assignment_is_built, call_is_built, operation_is_built, step_is_built, test_is_built, branch_is_built, case_is_built, catch_is_built, loop_is_built, kind_is_built};
 
-use resin_evaluation::ChannelFunction;
-use resin_items::Boxed;
-use resin_steps::names::channel_named;
-use resin_tree::{
+use resin_step_parts::names::channel_named;
+use resin_step_parts::under::items::Boxed;
+use resin_step_parts::under::meaning_forms::ChannelFunction;
+use resin_step_parts::under::tree::{
     Access, ArrayItem, Assignment, Branch, Call, Case, Catch, Expr, Function, Item, Loop,
     Operation, PathStep, Program, Simple, Stmt, StmtKind, Target, Test,
 };

@@ -9,7 +9,7 @@ use Rattle.std.specs.Str.Parse.{AllDigits}
 use Rattle.std.proofs.lemmas.Str.Parse.{IsNumeralModel, tells_digits, tells_all_ascii_digits, numerals_by_fold, numerals_by_value}
 use Rattle.std.proofs.lemmas.Fmt.{digits_value-decimal, digits_decimal}
 use Rattle.std.proofs.lemmas.Bool.Decides.{nat_tests}
-use Rattle.resin_bytes.specs.Numbers.{decimal_value, is_negative}
+use Rattle.resin_value.specs.Under.bytes.Numbers.{decimal_value, is_negative}
 use Rattle.resin_frozen.specs.Reading.{is_text, value_of, number, signed_of, signed}
 
 -- what digits spell behind the digits of another number

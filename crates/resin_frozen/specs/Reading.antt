@@ -3,9 +3,9 @@ use Rattle.std.specs.Prelude.{ℕ, zero, suc, ◌-◌, ◌^◌, min, Bool, true,
 use Rattle.std.specs.Fmt.{signed_decimal}
 use Rattle.std.specs.List.{position_or_len, before_first, after_first, starts_with}
 use Rattle.std.specs.Cmp.Lexicographic.{pointwise}
-use Rattle.resin_bytes.specs.Numbers.{decimal_value, is_negative}
-use Rattle.resin_label.specs.Sets.{empty as no_labels}
-use Rattle.resin_lstr.specs.Texts.{Text as LabelledText, LONGEST, carrying}
+use Rattle.resin_value.specs.Under.bytes.Numbers.{decimal_value, is_negative}
+use Rattle.resin_value.specs.Under.label.Sets.{empty as no_labels}
+use Rattle.resin_value.specs.Under.lstr.Texts.{Text as LabelledText, LONGEST, carrying}
 use Rattle.resin_value.specs.declared.key.Key.{Key}
 use Rattle.resin_value.specs.declared.key.Key.TheVariants.{Int, Text}
 use Rattle.resin_value.specs.Keys.{is_lawful}

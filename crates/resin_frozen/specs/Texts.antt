@@ -2,7 +2,7 @@
 -- fields have no place there, and an array is its entries alone.
 use Rattle.std.specs.Prelude.{ℕ, ℤ, Bool, true, false, List, [], ◌∷◌, ◌++◌, length, codes, decimal}
 use Rattle.std.specs.Fmt.{signed_decimal}
-use Rattle.resin_lstr.specs.Texts.{bytes_of}
+use Rattle.resin_value.specs.Under.lstr.Texts.{bytes_of}
 use Rattle.resin_value.specs.declared.key.Key.{Key}
 use Rattle.resin_value.specs.declared.key.Key.TheVariants.{Int, Text}
 use Rattle.resin_value.specs.Trees.{Tree, Row, null, boolean, integer, text, array, object, no_entry, entry}

@@ -3,7 +3,7 @@ ghost use Rattle.std.specs.Prelude.{◌≡◌, ◌≤◌, ◌++◌, OnOk, IfOk, 
 ghost use Rattle.std.specs.List.{list_all};
 ghost use Rattle.std.specs.Map.{lookup};
 ghost use Rattle.std.specs.Str.{bytes_eq};
-ghost use Rattle.resin_lstr.specs.Texts.{LONGEST, bytes_of};
+ghost use Rattle.resin_value.specs.Under.lstr.Texts.{LONGEST, bytes_of};
 ghost use Rattle.resin_value.specs.Arrays.{row_of};
 ghost use Rattle.resin_value.specs.Seen.{tree_of};
 ghost use Rattle.resin_frozen.specs.Texts as texts;
@@ -14,9 +14,9 @@ use crate::fault::FreezeFault;
 use crate::frozen::Frozen;
 use crate::keys::{is_field_key, is_name};
 use itoa::Buffer;
-use resin_bytes::Bytes;
 use resin_items::SharedBytes;
-use resin_lstr::LText;
+use resin_value::under::bytes::Bytes;
+use resin_value::under::lstr::LText;
 use resin_value::{Arr, Fields, Key, Value};
 use std::alloc::{AllocError, Global};
 

@@ -1,6 +1,6 @@
 //! Reading keys and names.
 ghost use Rattle.std.specs.Prelude.{◌≡◌, ◌++◌, ◌∷◌, [], IfOk, OnOk, true, IsTrue, ◌&&◌, nat_le, length};
-ghost use Rattle.resin_lstr.specs.Texts.{LONGEST};
+ghost use Rattle.resin_value.specs.Under.lstr.Texts.{LONGEST};
 ghost use Rattle.std.specs.List.{list_all, IsDistinct};
 ghost use Rattle.std.specs.Str.{bytes_eq};
 ghost use Rattle.resin_frozen.specs.Policies.{HasFieldNames};
@@ -13,8 +13,8 @@ ghost use Rattle.resin_frozen.specs.Reads.{Reads};
 use crate::rest::Rest;
 use crate::stop::Stop;
 use indexmap::IndexSet;
-use resin_lstr::MAX_LEN;
 use resin_scan::bytes::{begins_name, is_name_byte};
+use resin_value::under::lstr::MAX_LEN;
 use resin_value::{Fields, Key, KeyText};
 use std::alloc::{AllocError, Global};
 

@@ -9,8 +9,8 @@ ghost use Rattle.resin_frozen.specs.Reads.{Reads, ReadsValue, Is};
 use crate::keys::{Keys, read_key};
 use crate::rest::Rest;
 use crate::stop::Stop;
-use resin_label::PSet;
-use resin_lstr::{LText, TextFault};
+use resin_value::under::label::PSet;
+use resin_value::under::lstr::{LText, TextFault};
 use resin_value::{Arr, Value};
 use std::alloc::Global;
 

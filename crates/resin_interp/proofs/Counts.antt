@@ -5,15 +5,15 @@ use Rattle.std.proofs.Common.{◌≡◌, ◌≢◌, ℕ, suc, ◌<◌, ◌≤◌
 use Rattle.std.proofs.lemmas.List.{take_all}
 use Rattle.std.specs.List.{filter_map}
 use Rattle.std.specs.Option.{option_map}
-use Rattle.resin_value.specs.declared.value.Value.{Value}
-use Rattle.resin_value.specs.Seen.{tree_of, trees_of}
-use Rattle.resin_builtin.specs.declared.builtin.Builtin.{Builtin}
-use Rattle.resin_builtin.specs.declared.signatures.Sig.{Sig}
-use Rattle.resin_builtin.specs.Signatures.{sig_of}
-use Rattle.resin_tree.specs.declared.declaration.Item.{Item}
-use Rattle.resin_tree.specs.declared.declaration.Item.TheVariants.{Function, Class, Statement}
-use Rattle.resin_tree.specs.declared.statement.Stmt.{Stmt}
-use Rattle.resin_evaluation.specs.Programs.{statement_in}
+use Rattle.resin_eval_calls.specs.Under.value.declared.value.Value.{Value}
+use Rattle.resin_eval_calls.specs.Under.value.Seen.{tree_of, trees_of}
+use Rattle.resin_eval_calls.specs.Under.builtin.declared.builtin.Builtin.{Builtin}
+use Rattle.resin_eval_calls.specs.Under.builtin.declared.signatures.Sig.{Sig}
+use Rattle.resin_eval_calls.specs.Under.builtin.Signatures.{sig_of}
+use Rattle.resin_eval_calls.specs.Under.tree.declared.declaration.Item.{Item}
+use Rattle.resin_eval_calls.specs.Under.tree.declared.declaration.Item.TheVariants.{Function, Class, Statement}
+use Rattle.resin_eval_calls.specs.Under.tree.declared.statement.Stmt.{Stmt}
+use Rattle.resin_eval_calls.specs.Under.meaning_forms.Programs.{statement_in}
 
 -- ---- the statements of a file
 

@@ -3,31 +3,31 @@ use Rattle.std.proofs.Common.{◌≡◌, ℕ, ◌<◌, ◌≤◌, List, [], ◌�
 use Rattle.std.specs.Prelude.{◌==◌}
 use Rattle.std.proofs.lemmas.Bool.Decides.{nat_tests}
 use Rattle.std.proofs.lemmas.Result.{err_from_is_err_and}
-use Rattle.resin_base.specs.FileStore.{FileStore}
-use Rattle.resin_base.specs.TableStore.{TableStore}
-use Rattle.resin_base.specs.declared.calls.Calls.{Calls}
-use Rattle.resin_label.specs.Sets.{NumberSet, empty as no_labels}
-use Rattle.resin_lstr.specs.Texts.{Text as LabelledText}
-use Rattle.resin_journal.specs.declared.channel.Channel.{Channel}
-use Rattle.resin_value.specs.Trees.{Tree}
-use Rattle.resin_machine.specs.declared.stop.Stop.{Stop}
-use Rattle.resin_machine.specs.declared.stop.Stop.TheVariants.{Thrown, Exit, Fault, Keeper, Memory}
-use Rattle.resin_machine.specs.State.{State}
-use Rattle.resin_program.specs.Programs.{Prog, give, ended, then_by, framed, ◌>>=◌}
-use Rattle.resin_program.specs.Runs.{Seen, World, world, Does, done}
-use Rattle.resin_program.specs.LeavingWrites.{ask_policies, ask_filters}
-use Rattle.resin_program.proofs.Composition.{does_stop, does_stopped, does_then, does_lost, does_unbegun, does_nothing, does_ended, none_here}
-use Rattle.resin_program.proofs.Enclosures.{does_unframed}
-use Rattle.resin_evaluation.specs.Runs.{on_ok}
-use Rattle.resin_evaluation.specs.Parts.{Evals}
-use Rattle.resin_evaluation.specs.Merges.{fold_on, fold_sets}
-use Rattle.resin_evaluation.specs.Functions.{format_arguments}
-use Rattle.resin_evaluation.specs.Channels.{unbuilt}
-use Rattle.resin_scalar.specs.declared.faults.ScriptFault.TheVariants.{UndefinedFunction}
-use Rattle.resin_evaluation.specs.Programs.{file, flow_of, program_end}
-use Rattle.resin_evaluation.specs.declared.course.Course.{Course}
-use Rattle.resin_evaluation.specs.declared.course.Flow.{Flow}
-use Rattle.resin_evaluation.specs.declared.course.Flow.TheVariants.{Exit as Exited}
+use Rattle.resin_eval_calls.specs.Under.base.FileStore.{FileStore}
+use Rattle.resin_eval_calls.specs.Under.base.TableStore.{TableStore}
+use Rattle.resin_eval_calls.specs.Under.base.declared.calls.Calls.{Calls}
+use Rattle.resin_eval_calls.specs.Under.label.Sets.{NumberSet, empty as no_labels}
+use Rattle.resin_eval_calls.specs.Under.lstr.Texts.{Text as LabelledText}
+use Rattle.resin_eval_calls.specs.Under.journal.declared.channel.Channel.{Channel}
+use Rattle.resin_eval_calls.specs.Under.value.Trees.{Tree}
+use Rattle.resin_eval_calls.specs.Under.machine.declared.stop.Stop.{Stop}
+use Rattle.resin_eval_calls.specs.Under.machine.declared.stop.Stop.TheVariants.{Thrown, Exit, Fault, Keeper, Memory}
+use Rattle.resin_eval_calls.specs.Under.machine.State.{State}
+use Rattle.resin_eval_calls.specs.Under.meaning.Programs.{Prog, give, ended, then_by, framed, ◌>>=◌}
+use Rattle.resin_eval_calls.specs.Under.meaning.Runs.{Seen, World, world, Does, done}
+use Rattle.resin_eval_calls.specs.Under.meaning.LeavingWrites.{ask_policies, ask_filters}
+use Rattle.resin_eval_calls.proofs.meaning_lemmas.Composition.{does_stop, does_stopped, does_then, does_lost, does_unbegun, does_nothing, does_ended, none_here}
+use Rattle.resin_eval_calls.proofs.meaning_lemmas.Enclosures.{does_unframed}
+use Rattle.resin_eval_calls.specs.Under.meaning_forms.Runs.{on_ok}
+use Rattle.resin_eval_calls.specs.Under.meaning_forms.Parts.{Evals}
+use Rattle.resin_eval_calls.specs.Under.meaning_forms.Merges.{fold_on, fold_sets}
+use Rattle.resin_eval_calls.specs.Under.meaning_forms.Functions.{format_arguments}
+use Rattle.resin_eval_calls.specs.Under.meaning_forms.Channels.{unbuilt}
+use Rattle.resin_eval_calls.specs.Under.scalar.declared.faults.ScriptFault.TheVariants.{UndefinedFunction}
+use Rattle.resin_eval_calls.specs.Under.meaning_forms.Programs.{file, flow_of, program_end}
+use Rattle.resin_eval_calls.specs.Under.meaning_forms.declared.course.Course.{Course}
+use Rattle.resin_eval_calls.specs.Under.meaning_forms.declared.course.Flow.{Flow}
+use Rattle.resin_eval_calls.specs.Under.meaning_forms.declared.course.Flow.TheVariants.{Exit as Exited}
 
 -- ---- how a program ends
 

@@ -2,37 +2,37 @@
 use Rattle.std.proofs.Common.{◌≡◌, ◌≢◌, ℕ, suc, ◌-◌, ◌<◌, Result, Ok, Err, refl, sym, ◌∙◌, subst, arith, Bor, IsErrAnd}
 use Rattle.std.proofs.lemmas.Result.{err_from_is_err_and}
 use Rattle.std.specs.Prelude.{OnOk}
-use Rattle.resin_base.specs.FileStore.{FileStore}
-use Rattle.resin_base.specs.TableStore.{TableStore}
-use Rattle.resin_base.specs.declared.calls.Calls.{Calls}
-use Rattle.resin_scalar.specs.declared.faults.ScriptFault.TheVariants.{DepthSpent}
-use Rattle.resin_value.specs.declared.value.Value.{Value}
-use Rattle.resin_tree.specs.declared.expression.Access.{Access}
-use Rattle.resin_tree.specs.declared.expression.ArrayItem.{ArrayItem}
-use Rattle.resin_tree.specs.declared.expression.Assignment.{Assignment}
-use Rattle.resin_tree.specs.declared.expression.Call.{Call}
-use Rattle.resin_tree.specs.declared.expression.Expr.{Expr, Expr-F, out-Expr, roll-Expr, roll-out-Expr, out-roll-Expr}
-use Rattle.resin_tree.specs.declared.expression.Expr.TheVariants as expr
-use Rattle.resin_tree.specs.declared.expression.Operation.{Operation}
-use Rattle.resin_tree.specs.declared.expression.PathStep.{PathStep}
-use Rattle.resin_tree.specs.declared.expression.Target.{Target}
-use Rattle.resin_tree.specs.declared.expression.Test.{Test}
-use Rattle.resin_tree.specs.declared.statement.Stmt.{Stmt}
-use Rattle.resin_machine.specs.declared.stop.Stop.{Stop}
-use Rattle.resin_machine.specs.declared.stop.Stop.TheVariants.{Fault}
-use Rattle.resin_machine.specs.State.{State}
-use Rattle.resin_machine.specs.Steps.{charge, at_line}
-use Rattle.resin_program.specs.Programs.{act, on_line}
-use Rattle.resin_program.specs.Runs.{Seen, World, world, Does}
-use Rattle.resin_evaluation.specs.declared.course.Course.{Course}
-use Rattle.resin_evaluation.specs.Parts.{Evals, ◌>>◌}
-use Rattle.resin_evaluation.specs.Expressions.{expr_form, soft_form}
-use Rattle.resin_evaluation.specs.Programs.{evals, ticked_form}
-use Rattle.resin_invoke.specs.Nested.{Ends}
-use Rattle.resin_invoke.specs.declared.nested.Nested.{Nested}
-use Rattle.resin_invoke.specs.declared.nested.Nested.TheVariants.{Value as ForValue, Asked, Statement}
-use Rattle.resin_invoke.specs.declared.nested.Outcome.{Outcome}
-use Rattle.resin_invoke.proofs.Arms.{does_faulted}
+use Rattle.resin_eval_calls.specs.Under.base.FileStore.{FileStore}
+use Rattle.resin_eval_calls.specs.Under.base.TableStore.{TableStore}
+use Rattle.resin_eval_calls.specs.Under.base.declared.calls.Calls.{Calls}
+use Rattle.resin_eval_calls.specs.Under.scalar.declared.faults.ScriptFault.TheVariants.{DepthSpent}
+use Rattle.resin_eval_calls.specs.Under.value.declared.value.Value.{Value}
+use Rattle.resin_eval_calls.specs.Under.tree.declared.expression.Access.{Access}
+use Rattle.resin_eval_calls.specs.Under.tree.declared.expression.ArrayItem.{ArrayItem}
+use Rattle.resin_eval_calls.specs.Under.tree.declared.expression.Assignment.{Assignment}
+use Rattle.resin_eval_calls.specs.Under.tree.declared.expression.Call.{Call}
+use Rattle.resin_eval_calls.specs.Under.tree.declared.expression.Expr.{Expr, Expr-F, out-Expr, roll-Expr, roll-out-Expr, out-roll-Expr}
+use Rattle.resin_eval_calls.specs.Under.tree.declared.expression.Expr.TheVariants as expr
+use Rattle.resin_eval_calls.specs.Under.tree.declared.expression.Operation.{Operation}
+use Rattle.resin_eval_calls.specs.Under.tree.declared.expression.PathStep.{PathStep}
+use Rattle.resin_eval_calls.specs.Under.tree.declared.expression.Target.{Target}
+use Rattle.resin_eval_calls.specs.Under.tree.declared.expression.Test.{Test}
+use Rattle.resin_eval_calls.specs.Under.tree.declared.statement.Stmt.{Stmt}
+use Rattle.resin_eval_calls.specs.Under.machine.declared.stop.Stop.{Stop}
+use Rattle.resin_eval_calls.specs.Under.machine.declared.stop.Stop.TheVariants.{Fault}
+use Rattle.resin_eval_calls.specs.Under.machine.State.{State}
+use Rattle.resin_eval_calls.specs.Under.machine.Steps.{charge, at_line}
+use Rattle.resin_eval_calls.specs.Under.meaning.Programs.{act, on_line}
+use Rattle.resin_eval_calls.specs.Under.meaning.Runs.{Seen, World, world, Does}
+use Rattle.resin_eval_calls.specs.Under.meaning_forms.declared.course.Course.{Course}
+use Rattle.resin_eval_calls.specs.Under.meaning_forms.Parts.{Evals, ◌>>◌}
+use Rattle.resin_eval_calls.specs.Under.meaning_forms.Expressions.{expr_form, soft_form}
+use Rattle.resin_eval_calls.specs.Under.meaning_forms.Programs.{evals, ticked_form}
+use Rattle.resin_eval_calls.specs.Under.eval_nested.Nested.{Ends}
+use Rattle.resin_eval_calls.specs.Under.eval_nested.declared.nested.Nested.{Nested}
+use Rattle.resin_eval_calls.specs.Under.eval_nested.declared.nested.Nested.TheVariants.{Value as ForValue, Asked, Statement}
+use Rattle.resin_eval_calls.specs.Under.eval_nested.declared.nested.Outcome.{Outcome}
+use Rattle.resin_eval_calls.proofs.eval_nested_lemmas.Arms.{does_faulted}
 
 shut_expr : (room : ℕ) (e : Expr) (m : State) {f : Seen FileStore} {t : Seen TableStore} {c : Calls} {s : Stop} → room ≡ 0 → s ≡ Fault DepthSpent m.line → Does ((evals room).expr e) (world m f t c) (Err s) (world m f t c)
 shut_expr room e m h k = rw h (unfold evals in does_faulted DepthSpent m k)

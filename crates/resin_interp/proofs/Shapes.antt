@@ -1,50 +1,50 @@
 -- What a form means by its shape, as an equation for each.
 use Rattle.std.proofs.Common.{◌≡◌, ℕ, List, true, false, Option, refl}
 use Rattle.std.specs.Prelude.{not, if◌then◌else◌}
-use Rattle.resin_value.specs.declared.value.Value.TheVariants.{Bool as Boolean}
-use Rattle.resin_value.specs.Values.{value_of}
-use Rattle.resin_tree.specs.declared.expression.Literal.{Literal}
-use Rattle.resin_tree.specs.declared.expression.Unary.{Unary}
-use Rattle.resin_tree.specs.declared.expression.Combining.{Combining}
-use Rattle.resin_tree.specs.declared.expression.Comparison.{Comparison}
-use Rattle.resin_tree.specs.declared.expression.Expr.{Expr}
-use Rattle.resin_tree.specs.declared.expression.Expr.TheVariants as expr
-use Rattle.resin_tree.specs.declared.expression.ArrayItem.{ArrayItem}
-use Rattle.resin_tree.specs.declared.expression.Access.{Access}
-use Rattle.resin_tree.specs.declared.expression.Access.TheVariants as access
-use Rattle.resin_tree.specs.declared.expression.Operation.{Operation}
-use Rattle.resin_tree.specs.declared.expression.Operation.TheVariants as operation
-use Rattle.resin_tree.specs.declared.expression.Test.{Test}
-use Rattle.resin_tree.specs.declared.expression.Test.TheVariants as test
-use Rattle.resin_tree.specs.declared.expression.PathStep.{PathStep}
-use Rattle.resin_tree.specs.declared.expression.PathStep.TheVariants as path_step
-use Rattle.resin_tree.specs.declared.expression.Target.{Target}
-use Rattle.resin_tree.specs.declared.expression.Assignment.{Assignment}
-use Rattle.resin_tree.specs.declared.expression.Assignment.TheVariants as assignment
-use Rattle.resin_tree.specs.declared.expression.Call.{Call}
-use Rattle.resin_tree.specs.declared.statement.Simple.{Simple}
-use Rattle.resin_tree.specs.declared.statement.Stmt.{Stmt}
-use Rattle.resin_tree.specs.declared.statement.Branch.{Branch}
-use Rattle.resin_tree.specs.declared.statement.Case.{Case}
-use Rattle.resin_tree.specs.declared.statement.Catch.{Catch}
-use Rattle.resin_tree.specs.declared.statement.Loop.{Loop}
-use Rattle.resin_tree.specs.declared.statement.Loop.TheVariants as loop
-use Rattle.resin_tree.specs.declared.statement.StmtKind.{StmtKind}
-use Rattle.resin_tree.specs.declared.statement.StmtKind.TheVariants as kind
-use Rattle.resin_machine.specs.Variables.{read}
-use Rattle.resin_program.specs.Programs.{give, act, ◌>>=◌}
-use Rattle.resin_target.specs.declared.path.Index.TheVariants.{At, Next}
-use Rattle.resin_target.specs.declared.path.Path.{Path}
-use Rattle.resin_target.specs.Paths.{with_index, with_property}
-use Rattle.resin_evaluation.specs.Parts.{Evals, ◌>>◌}
-use Rattle.resin_evaluation.specs.Operands.{is_nothing, index_of, soft_index_of, property_of}
-use Rattle.resin_evaluation.specs.Invoke.{literal_of, block}
-use Rattle.resin_evaluation.specs.Operators.{unary, combined, compared, instance_of}
-use Rattle.resin_evaluation.specs.Targets.{step}
-use Rattle.resin_evaluation.specs.Assignments.{assign, compound, coalesce_assign, changed, incremented, decremented, assignment_form}
-use Rattle.resin_evaluation.specs.Calls.{call_form}
-use Rattle.resin_evaluation.specs.Expressions.{array_form, interpolated, access_form, soft_access_form, soft_form, operation_form, holds, all_set, test_form, expr_form}
-use Rattle.resin_evaluation.specs.Statements.{while_loop, for_loop, turn, run_all, foreach, loop_form, simple_form, branches, switch, try_form, stmt_form}
+use Rattle.resin_eval_calls.specs.Under.value.declared.value.Value.TheVariants.{Bool as Boolean}
+use Rattle.resin_eval_calls.specs.Under.value.Values.{value_of}
+use Rattle.resin_eval_calls.specs.Under.tree.declared.expression.Literal.{Literal}
+use Rattle.resin_eval_calls.specs.Under.tree.declared.expression.Unary.{Unary}
+use Rattle.resin_eval_calls.specs.Under.tree.declared.expression.Combining.{Combining}
+use Rattle.resin_eval_calls.specs.Under.tree.declared.expression.Comparison.{Comparison}
+use Rattle.resin_eval_calls.specs.Under.tree.declared.expression.Expr.{Expr}
+use Rattle.resin_eval_calls.specs.Under.tree.declared.expression.Expr.TheVariants as expr
+use Rattle.resin_eval_calls.specs.Under.tree.declared.expression.ArrayItem.{ArrayItem}
+use Rattle.resin_eval_calls.specs.Under.tree.declared.expression.Access.{Access}
+use Rattle.resin_eval_calls.specs.Under.tree.declared.expression.Access.TheVariants as access
+use Rattle.resin_eval_calls.specs.Under.tree.declared.expression.Operation.{Operation}
+use Rattle.resin_eval_calls.specs.Under.tree.declared.expression.Operation.TheVariants as operation
+use Rattle.resin_eval_calls.specs.Under.tree.declared.expression.Test.{Test}
+use Rattle.resin_eval_calls.specs.Under.tree.declared.expression.Test.TheVariants as test
+use Rattle.resin_eval_calls.specs.Under.tree.declared.expression.PathStep.{PathStep}
+use Rattle.resin_eval_calls.specs.Under.tree.declared.expression.PathStep.TheVariants as path_step
+use Rattle.resin_eval_calls.specs.Under.tree.declared.expression.Target.{Target}
+use Rattle.resin_eval_calls.specs.Under.tree.declared.expression.Assignment.{Assignment}
+use Rattle.resin_eval_calls.specs.Under.tree.declared.expression.Assignment.TheVariants as assignment
+use Rattle.resin_eval_calls.specs.Under.tree.declared.expression.Call.{Call}
+use Rattle.resin_eval_calls.specs.Under.tree.declared.statement.Simple.{Simple}
+use Rattle.resin_eval_calls.specs.Under.tree.declared.statement.Stmt.{Stmt}
+use Rattle.resin_eval_calls.specs.Under.tree.declared.statement.Branch.{Branch}
+use Rattle.resin_eval_calls.specs.Under.tree.declared.statement.Case.{Case}
+use Rattle.resin_eval_calls.specs.Under.tree.declared.statement.Catch.{Catch}
+use Rattle.resin_eval_calls.specs.Under.tree.declared.statement.Loop.{Loop}
+use Rattle.resin_eval_calls.specs.Under.tree.declared.statement.Loop.TheVariants as loop
+use Rattle.resin_eval_calls.specs.Under.tree.declared.statement.StmtKind.{StmtKind}
+use Rattle.resin_eval_calls.specs.Under.tree.declared.statement.StmtKind.TheVariants as kind
+use Rattle.resin_eval_calls.specs.Under.machine.Variables.{read}
+use Rattle.resin_eval_calls.specs.Under.meaning.Programs.{give, act, ◌>>=◌}
+use Rattle.resin_eval_calls.specs.Under.target.declared.path.Index.TheVariants.{At, Next}
+use Rattle.resin_eval_calls.specs.Under.target.declared.path.Path.{Path}
+use Rattle.resin_eval_calls.specs.Under.target.Paths.{with_index, with_property}
+use Rattle.resin_eval_calls.specs.Under.meaning_forms.Parts.{Evals, ◌>>◌}
+use Rattle.resin_eval_calls.specs.Under.meaning_forms.Operands.{is_nothing, index_of, soft_index_of, property_of}
+use Rattle.resin_eval_calls.specs.Under.meaning_forms.Invoke.{literal_of, block}
+use Rattle.resin_eval_calls.specs.Under.meaning_forms.Operators.{unary, combined, compared, instance_of}
+use Rattle.resin_eval_calls.specs.Under.meaning_forms.Targets.{step}
+use Rattle.resin_eval_calls.specs.Under.meaning_forms.Assignments.{assign, compound, coalesce_assign, changed, incremented, decremented, assignment_form}
+use Rattle.resin_eval_calls.specs.Under.meaning_forms.Calls.{call_form}
+use Rattle.resin_eval_calls.specs.Under.meaning_forms.Expressions.{array_form, interpolated, access_form, soft_access_form, soft_form, operation_form, holds, all_set, test_form, expr_form}
+use Rattle.resin_eval_calls.specs.Under.meaning_forms.Statements.{while_loop, for_loop, turn, run_all, foreach, loop_form, simple_form, branches, switch, try_form, stmt_form}
 
 pub literal_means : (ev : Evals) (z : Expr) (l : Literal) → z ≡ expr.Literal l → expr_form ev z ≡ (give (value_of (literal_of l)))
 literal_means ev z l h = rw (h, expr.outs-Literal l, expr_form) refl

@@ -1,7 +1,7 @@
 -- Runs made of what a caller has.
-use Rattle.resin_base.specs.declared.calls.Calls.{Calls}
-use Rattle.resin_machine.specs.State.{State}
-use Rattle.resin_invoke.specs.declared.run.Run.{Run}
+use Rattle.resin_eval_calls.specs.Under.base.declared.calls.Calls.{Calls}
+use Rattle.resin_eval_calls.specs.Under.machine.State.{State}
+use Rattle.resin_eval_calls.specs.Under.eval_nested.declared.run.Run.{Run}
 
 -- a run that stands on these
 abbrev pub lent : {F T : Type 0} → State → F → T → Calls → Run F T

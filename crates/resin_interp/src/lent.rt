@@ -1,18 +1,18 @@
 //! Runs and calls for whoever has a machine, keepers and calls of their own: they are lent to a run, and are back in their places behind the call.
-ghost use Rattle.resin_evaluation.specs.Programs.{function_call, program};
+ghost use Rattle.resin_eval_calls.specs.Under.meaning_forms.Programs.{function_call, program};
 ghost use Rattle.resin_interp.specs.Lent.{lent};
-ghost use Rattle.resin_program.specs.Runs.{Does, seen, world};
+ghost use Rattle.resin_eval_calls.specs.Under.meaning.Runs.{Does, seen, world};
 ghost use Rattle.std.specs.Fn.{FnOnceReturnsAtMut};
 ghost use Rattle.std.specs.Prelude.{◌≡◌};
 
 use crate::top::{perform, perform_call};
-use resin_base::{Calls, Files, Tables};
-use resin_evaluation::Flow;
-use resin_invoke::run::Run;
+use resin_eval_calls::under::base::{Calls, Files, Tables};
+use resin_eval_calls::under::eval_nested::run::Run;
+use resin_eval_calls::under::machine::{Machine, Stop};
+use resin_eval_calls::under::meaning_forms::Flow;
+use resin_eval_calls::under::tree::Program;
+use resin_eval_calls::under::value::{Value, Values};
 use resin_lend::lend_four;
-use resin_machine::{Machine, Stop};
-use resin_tree::Program;
-use resin_value::{Value, Values};
 use std::alloc::Global;
 
 // One call of `f` with a run made of these, which is taken apart again.

@@ -4,9 +4,10 @@
 pub mod lent;
 mod run;
 mod top;
+pub mod under;
 
 pub use lent::{call_function, run_program};
-pub use resin_evaluation::Flow;
-pub use resin_invoke::run::Run;
-pub use resin_machine::{Finished, Machine, Stop};
+pub use resin_eval_calls::under::eval_nested::run::Run;
+pub use resin_eval_calls::under::machine::{Finished, Machine, Stop};
+pub use resin_eval_calls::under::meaning_forms::Flow;
 pub use top::{leave_page, perform, perform_call};

@@ -1,31 +1,33 @@
 //! Evaluation, by walking the tree. `room` is how many more evaluations may be open. What nests in an evaluation is evaluated by a function value, so that each form
 //! is proved on its own; `evaluation` alone recurs, by giving itself, with less room each time.
-ghost use Rattle.resin_evaluation.specs.Expressions.{item_key, items, turned_key};
-ghost use Rattle.resin_evaluation.specs.Forms as form;
-ghost use Rattle.resin_evaluation.specs.Programs.{evals};
-ghost use Rattle.resin_evaluation.specs.Runs.{Runs};
-ghost use Rattle.resin_invoke.specs.Nested.{Ends, Nests, means};
-ghost use Rattle.resin_invoke.specs.Running.{Performs, at};
-ghost use Rattle.resin_value.specs.Changes.{empty};
-ghost use Rattle.resin_value.specs.Keys.{is_lawful};
+ghost use Rattle.resin_eval_calls.specs.Under.meaning_forms.Expressions.{item_key, items, turned_key};
+ghost use Rattle.resin_eval_calls.specs.Under.meaning_forms.Forms as form;
+ghost use Rattle.resin_eval_calls.specs.Under.meaning_forms.Programs.{evals};
+ghost use Rattle.resin_eval_calls.specs.Under.meaning_forms.Runs.{Runs};
+ghost use Rattle.resin_eval_calls.specs.Under.eval_nested.Nested.{Ends, Nests, means};
+ghost use Rattle.resin_eval_calls.specs.Under.eval_nested.Running.{Performs, at};
+ghost use Rattle.resin_eval_calls.specs.Under.value.Changes.{empty};
+ghost use Rattle.resin_eval_calls.specs.Under.value.Keys.{is_lawful};
 ghost use Rattle.std.specs.Prelude.{◌<◌, IfOk, IfSome, IsTrue, OnOk, suc};
 
-use resin_assign::assign::Assigner;
-use resin_base::{Files, Tables};
-use resin_calls::calls::Caller;
-use resin_evaluation::Course;
-use resin_invoke::nested::{Evaluator, Nested, Outcome};
-use resin_invoke::run::Run;
-use resin_items::Boxed;
-use resin_machine::{Machine, Stop};
-use resin_merges::merges::Merger;
-use resin_runtime::values::texts_joined;
-use resin_scalar::ScriptFault;
-use resin_statements::forms::Statements;
-use resin_steps::operators::{charge_all, compared, given, instance_of};
-use resin_steps::reads::{index_of, is_nothing, keyed, literal_value, property_of, with_entry};
-use resin_tree::{Access, ArrayItem, Expr, Operation, Stmt, Test};
-use resin_value::{Arr, Key, Value};
+use resin_eval_calls::calls::Caller;
+use resin_eval_calls::under::base::{Files, Tables};
+use resin_eval_calls::under::eval_merges::merges::Merger;
+use resin_eval_calls::under::eval_nested::nested::{Evaluator, Nested, Outcome};
+use resin_eval_calls::under::eval_nested::run::Run;
+use resin_eval_calls::under::items::Boxed;
+use resin_eval_calls::under::machine::{Machine, Stop};
+use resin_eval_calls::under::meaning_forms::Course;
+use resin_eval_calls::under::scalar::ScriptFault;
+use resin_eval_calls::under::step_parts::operators::{charge_all, compared, given, instance_of};
+use resin_eval_calls::under::step_parts::reads::{
+    index_of, is_nothing, keyed, literal_value, property_of, with_entry,
+};
+use resin_eval_calls::under::step_parts::values::texts_joined;
+use resin_eval_calls::under::tree::{Access, ArrayItem, Expr, Operation, Stmt, Test};
+use resin_eval_calls::under::value::{Arr, Key, Value};
+use resin_eval_statements::forms::Statements;
+use resin_eval_statements::under::eval_assign::assign::Assigner;
 use std::alloc::Global;
 use std::marker::PhantomData;
 

@@ -1,27 +1,27 @@
 //! The program of a file, and calls by name from outside, over a run.
-ghost use Rattle.resin_evaluation.specs.Invoke.{block};
-ghost use Rattle.resin_evaluation.specs.Programs.{evals, file, flow_of, function_call, most_open, program, program_end, statement_in};
-ghost use Rattle.resin_evaluation.specs.Writes.{context_of as page_context, leave};
-ghost use Rattle.resin_evaluation.specs.declared.outgoing.Outgoing.TheVariants.{Page};
-ghost use Rattle.resin_journal.specs.declared.channel.Channel.TheVariants.{Http};
-ghost use Rattle.resin_invoke.specs.Running.{Performs};
+ghost use Rattle.resin_eval_calls.specs.Under.meaning_forms.Invoke.{block};
+ghost use Rattle.resin_eval_calls.specs.Under.meaning_forms.Programs.{evals, file, flow_of, function_call, most_open, program, program_end, statement_in};
+ghost use Rattle.resin_eval_calls.specs.Under.meaning_forms.Writes.{context_of as page_context, leave};
+ghost use Rattle.resin_eval_calls.specs.Under.meaning_forms.declared.outgoing.Outgoing.TheVariants.{Page};
+ghost use Rattle.resin_eval_calls.specs.Under.journal.declared.channel.Channel.TheVariants.{Http};
+ghost use Rattle.resin_eval_calls.specs.Under.eval_nested.Running.{Performs};
 ghost use Rattle.std.specs.List.{filter_map};
 ghost use Rattle.std.specs.Prelude.{IfOk, ◌≡◌};
 
 use crate::run::evaluation;
-use resin_base::{Files, Tables};
-use resin_calls::calls::Caller;
-use resin_evaluation::{Course, Flow, Outgoing};
-use resin_invoke::nested::Evaluator;
-use resin_invoke::run::Run;
-use resin_leaving::leaving::context_of;
-use resin_lstr::LText;
-use resin_machine::Stop;
-use resin_runtime::declarations::declare_all;
-use resin_steps::names::find_callee;
-use resin_tree::{Item, Program};
-use resin_value::{Value, Values};
-use resin_writes::writes::Writer;
+use resin_eval_calls::calls::Caller;
+use resin_eval_calls::under::base::{Files, Tables};
+use resin_eval_calls::under::eval_nested::nested::Evaluator;
+use resin_eval_calls::under::eval_nested::run::Run;
+use resin_eval_calls::under::eval_writes::leaving::context_of;
+use resin_eval_calls::under::eval_writes::writes::Writer;
+use resin_eval_calls::under::lstr::LText;
+use resin_eval_calls::under::machine::Stop;
+use resin_eval_calls::under::meaning_forms::{Course, Flow, Outgoing};
+use resin_eval_calls::under::step_parts::declarations::declare_all;
+use resin_eval_calls::under::step_parts::names::find_callee;
+use resin_eval_calls::under::tree::{Item, Program};
+use resin_eval_calls::under::value::{Value, Values};
 use std::alloc::{AllocError, Global};
 use std::marker::PhantomData;
 

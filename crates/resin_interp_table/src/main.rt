@@ -10,13 +10,13 @@
 
 ghost use Rattle.std.specs.Prelude.{◌≤◌, length};
 
-use resin_base::{Calls, FailList};
+use resin_interp::under::base::{Calls, FailList};
+use resin_interp::under::journal::denial_line;
 use resin_interp::{Finished, Flow, Machine, Stop, call_function, run_program};
-use resin_journal::denial_line;
 use resin_lex::{ParseFault, Program};
-use resin_lstr::LText;
 use resin_memory::{CalmFiles, CalmTables};
 use resin_parse::program;
+use resin_value::under::lstr::LText;
 use resin_value::{Value, Values};
 use std::alloc::{AllocError, Global};
 use std::io;

@@ -1,16 +1,16 @@
 -- What was lent to a run, in the words of a caller that has it in places of its own.
 use Rattle.std.proofs.Common.{◌≡◌, subst}
 use Rattle.std.specs.Prelude.{Result}
-use Rattle.resin_base.specs.declared.calls.Calls.{Calls}
-use Rattle.resin_base.specs.declared.files.Files as Files
-use Rattle.resin_base.specs.declared.tables.Tables as Tables
-use Rattle.resin_invoke.specs.Running.{at, Performs}
-use Rattle.resin_invoke.specs.declared.run.Run.{Run}
+use Rattle.resin_interp.specs.Under.base.declared.calls.Calls.{Calls}
+use Rattle.resin_interp.specs.Under.base.declared.files.Files as Files
+use Rattle.resin_interp.specs.Under.base.declared.tables.Tables as Tables
+use Rattle.resin_interp.specs.Under.eval_nested.Running.{at, Performs}
+use Rattle.resin_interp.specs.Under.eval_nested.declared.run.Run.{Run}
 use Rattle.resin_interp.specs.Lent.{lent}
-use Rattle.resin_machine.specs.State.{State}
-use Rattle.resin_machine.specs.declared.stop.Stop.{Stop}
-use Rattle.resin_program.specs.Programs.{Prog}
-use Rattle.resin_program.specs.Runs.{Does}
+use Rattle.resin_interp.specs.Under.machine.State.{State}
+use Rattle.resin_interp.specs.Under.machine.declared.stop.Stop.{Stop}
+use Rattle.resin_interp.specs.Under.meaning.Programs.{Prog}
+use Rattle.resin_interp.specs.Under.meaning.Runs.{Does}
 
 -- a run that was made of these went to one that was taken apart into those
 pub does_lent : {F T A : Type 0} (files : Files.Ghosts F) (tables : Tables.Ghosts T) (p : Prog A) {u v : Run F T} {m m' : State} {f f' : F} {t t' : T} {k k' : Calls} {r : Result A Stop}

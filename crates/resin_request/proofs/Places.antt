@@ -2,17 +2,17 @@
 use Rattle.std.proofs.Common.{◌≡◌, ℕ, zero, suc, ◌+◌, ◌≤◌, List, [], ◌∷◌, length, Result, Ok, Err, refl, sym, ap, ◌∙◌, arith, subst, inl, true}
 use Rattle.std.specs.Prelude.{nat_le, if◌then◌else◌}
 use Rattle.std.proofs.lemmas.Bool.Decides.{nat_tests}
-use Rattle.resin_lstr.specs.Texts.{LONGEST}
+use Rattle.resin_inputs.specs.Under.lstr.Texts.{LONGEST}
 use Rattle.resin_lex.specs.Lines.{ends_line, line_ends, line_of}
 use Rattle.resin_lex.specs.declared.token.ParseFault.{ParseFault}
 use Rattle.resin_lex.specs.declared.token.ParseFault.TheVariants as fault
-use Rattle.resin_tree.specs.declared.declaration.Program.{Program}
-use Rattle.resin_scalar.specs.declared.faults.ScriptFault.TheVariants.{Syntax, TooDeep}
-use Rattle.resin_machine.specs.declared.stop.Stop.TheVariants.{Fault, Memory}
+use Rattle.resin_interp.specs.Under.tree.declared.declaration.Program.{Program}
+use Rattle.resin_inputs.specs.Under.scalar.declared.faults.ScriptFault.TheVariants.{Syntax, TooDeep}
+use Rattle.resin_interp.specs.Under.machine.declared.stop.Stop.TheVariants.{Fault, Memory}
 use Rattle.resin_parse.specs.Parsed.{IsAsParsed, parsed}
-use Rattle.resin_program.specs.Programs.{Prog, ended, moment}
-use Rattle.resin_program.specs.Runs.{World, Does, Reached}
-use Rattle.resin_program.proofs.Composition.{does_nothing, does_ended, none_here}
+use Rattle.resin_interp.specs.Under.meaning.Programs.{Prog, ended, moment}
+use Rattle.resin_interp.specs.Under.meaning.Runs.{World, Does, Reached}
+use Rattle.resin_interp.proofs.meaning_lemmas.Composition.{does_nothing, does_ended, none_here}
 use Rattle.resin_request.specs.Sources.{read_as}
 
 -- no line ends behind a text
@@ -26,7 +26,7 @@ pub line_past : (src : List ℕ) (place end : ℕ) → end ≡ length src → le
 line_past src place end e le = ap (λ n. line_of src n) e ∙ ap (λ k. 1 + k) (sym (ends_past place src le))
 
 -- reading a text takes no step
-starts : (src : List ℕ) (r : Result Program ParseFault) (failing : List ℕ) (at : Rattle.resin_program.specs.Programs.Whole) → Reached (moment [] at) (read_as src r failing at).moments
+starts : (src : List ℕ) (r : Result Program ParseFault) (failing : List ℕ) (at : Rattle.resin_interp.specs.Under.meaning.Programs.Whole) → Reached (moment [] at) (read_as src r failing at).moments
 starts src (Ok p) failing at = inl refl
 starts src (Err (fault.Syntax place)) failing at = inl refl
 starts src (Err (fault.TooDeep place)) failing at = inl refl

@@ -1,14 +1,14 @@
 -- Output buffers that are open when a request's file came to its end (this project, after PHP's flush at shutdown).
 use Rattle.std.specs.Prelude.{ℕ, zero, suc, ◌==◌, List, [], ◌∷◌, ◌++◌, length, Option, Some, None, if◌then◌else◌}
-use Rattle.resin_lstr.specs.Texts.{Text}
-use Rattle.resin_journal.specs.declared.channel.Channel.TheVariants.{Http}
-use Rattle.resin_machine.specs.Leaving.{close_buffer}
-use Rattle.resin_program.specs.Programs.{Prog, give, act, ◌>>=◌}
-use Rattle.resin_evaluation.specs.declared.outgoing.Outgoing.TheVariants.{Page}
-use Rattle.resin_evaluation.specs.Parts.{computed, looked}
-use Rattle.resin_evaluation.specs.Operators.{too_long}
-use Rattle.resin_evaluation.specs.Writes.{context_of, leave}
-use Rattle.resin_evaluation.specs.Programs.{evals, most_open}
+use Rattle.resin_inputs.specs.Under.lstr.Texts.{Text}
+use Rattle.resin_interp.specs.Under.journal.declared.channel.Channel.TheVariants.{Http}
+use Rattle.resin_interp.specs.Under.machine.Leaving.{close_buffer}
+use Rattle.resin_interp.specs.Under.meaning.Programs.{Prog, give, act, ◌>>=◌}
+use Rattle.resin_interp.specs.Under.meaning_forms.declared.outgoing.Outgoing.TheVariants.{Page}
+use Rattle.resin_interp.specs.Under.meaning_forms.Parts.{computed, looked}
+use Rattle.resin_interp.specs.Under.meaning_forms.Operators.{too_long}
+use Rattle.resin_interp.specs.Under.meaning_forms.Writes.{context_of, leave}
+use Rattle.resin_interp.specs.Under.meaning_forms.Programs.{evals, most_open}
 
 -- a text leaves as one write on `http`, while no evaluation is open
 abbrev pub leave_page : Text → Prog (Unit {0})

@@ -2,7 +2,7 @@
 use Rattle.std.specs.Prelude.{ℕ, Bool, ◌==◌, ◌&&◌, ◌||◌, not, nat_eq, List, ◌++◌, length, drop, codes, if◌then◌else◌}
 use Rattle.std.specs.List.{before_first, ends_with}
 use Rattle.percent_encoding.specs.Percent.{percent_decode}
-use Rattle.resin_bytes.specs.Paths.{is_lawful_path}
+use Rattle.resin_inputs.specs.Under.bytes.Paths.{is_lawful_path}
 use Rattle.resin_http.specs.Head.{same_bytes}
 
 abbrev pub is_question : ℕ → Bool

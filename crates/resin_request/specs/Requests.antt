@@ -1,19 +1,19 @@
 -- One request, as a program over its state and the keepers (this project).
 use Rattle.std.specs.Prelude.{ℕ, nat_lt, Bool, true, false, List, length, codes, Option, Some, None, if◌then◌else◌}
-use Rattle.resin_label.specs.Sets.{empty as no_labels}
-use Rattle.resin_lstr.specs.Texts.{carrying}
-use Rattle.resin_journal.specs.declared.channel.Channel.{Channel}
-use Rattle.resin_journal.specs.declared.channel.Channel.TheVariants.{Input, Code, File}
-use Rattle.resin_base.specs.declared.files.Entry.{Entry}
-use Rattle.resin_value.specs.declared.value.Value.TheVariants.{Arr}
+use Rattle.resin_inputs.specs.Under.label.Sets.{empty as no_labels}
+use Rattle.resin_inputs.specs.Under.lstr.Texts.{carrying}
+use Rattle.resin_interp.specs.Under.journal.declared.channel.Channel.{Channel}
+use Rattle.resin_interp.specs.Under.journal.declared.channel.Channel.TheVariants.{Input, Code, File}
+use Rattle.resin_interp.specs.Under.base.declared.files.Entry.{Entry}
+use Rattle.resin_inputs.specs.Under.value.declared.value.Value.TheVariants.{Arr}
 use Rattle.resin_inputs.specs.declared.arrays.InputArrays.{InputArrays}
-use Rattle.resin_scope.specs.Chained.{chain_of}
-use Rattle.resin_machine.specs.State.{State}
-use Rattle.resin_machine.specs.Variables.{assign}
-use Rattle.resin_machine.specs.Filters.{import_path}
-use Rattle.resin_program.specs.Programs.{Prog, give, act, ◌>>=◌}
-use Rattle.resin_program.specs.KeeperCalls.{read_file}
-use Rattle.resin_evaluation.specs.Parts.{looked, ◌>>◌}
+use Rattle.resin_interp.specs.Under.scope.Chained.{chain_of}
+use Rattle.resin_interp.specs.Under.machine.State.{State}
+use Rattle.resin_interp.specs.Under.machine.Variables.{assign}
+use Rattle.resin_interp.specs.Under.machine.Filters.{import_path}
+use Rattle.resin_interp.specs.Under.meaning.Programs.{Prog, give, act, ◌>>=◌}
+use Rattle.resin_interp.specs.Under.meaning.KeeperCalls.{read_file}
+use Rattle.resin_interp.specs.Under.meaning_forms.Parts.{looked, ◌>>◌}
 use Rattle.resin_request.specs.declared.request.Finish.{Finish}
 use Rattle.resin_request.specs.declared.request.Finish.TheVariants.{Answered, Missing, NotYet}
 use Rattle.resin_request.specs.Paths.{boot_path, is_open, is_script}

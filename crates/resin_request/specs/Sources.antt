@@ -1,18 +1,18 @@
 -- Source texts of a request: what reading one comes to, and what running it means (this project).
 use Rattle.std.specs.Prelude.{ℕ, nat_le, nat_lt, Bool, true, false, List, length, Result, Ok, Err, if◌then◌else◌}
-use Rattle.resin_base.specs.declared.files.Entry.{Entry}
+use Rattle.resin_interp.specs.Under.base.declared.files.Entry.{Entry}
 use Rattle.resin_lex.specs.declared.token.ParseFault.{ParseFault}
 use Rattle.resin_lex.specs.declared.token.ParseFault.TheVariants as fault
 use Rattle.resin_lex.specs.Lines.{line_of}
-use Rattle.resin_tree.specs.declared.declaration.Program.{Program}
+use Rattle.resin_interp.specs.Under.tree.declared.declaration.Program.{Program}
 use Rattle.resin_parse.specs.Parsed.{parsed}
-use Rattle.resin_lstr.specs.Texts.{LONGEST}
-use Rattle.resin_scalar.specs.declared.faults.ScriptFault.TheVariants.{Syntax, TooDeep, TextTooLong}
-use Rattle.resin_machine.specs.declared.stop.Stop.TheVariants.{Fault, Memory}
-use Rattle.resin_program.specs.Programs.{Prog, give, stop, ◌>>=◌}
-use Rattle.resin_evaluation.specs.Parts.{faulted, ◌>>◌}
-use Rattle.resin_evaluation.specs.Programs.{program}
-use Rattle.resin_evaluation.specs.Built.{is_built}
+use Rattle.resin_inputs.specs.Under.lstr.Texts.{LONGEST}
+use Rattle.resin_inputs.specs.Under.scalar.declared.faults.ScriptFault.TheVariants.{Syntax, TooDeep, TextTooLong}
+use Rattle.resin_interp.specs.Under.machine.declared.stop.Stop.TheVariants.{Fault, Memory}
+use Rattle.resin_interp.specs.Under.meaning.Programs.{Prog, give, stop, ◌>>=◌}
+use Rattle.resin_interp.specs.Under.meaning_forms.Parts.{faulted, ◌>>◌}
+use Rattle.resin_interp.specs.Under.meaning_forms.Programs.{program}
+use Rattle.resin_interp.specs.Under.meaning_forms.Built.{is_built}
 
 -- the program of a text, by what the text is read as; a text that is none is a script fault at the line of the place where it stops being the
 -- front of one

@@ -1,17 +1,17 @@
 //! Output buffers that are open when the file of a request came to its end.
 ghost use Rattle.std.specs.Prelude.{◌≡◌, [], IfOk};
-ghost use Rattle.resin_lstr.specs.Faults.{GivesText};
-ghost use Rattle.resin_target.specs.Reads.{GivesOrNoMemory};
-ghost use Rattle.resin_invoke.specs.Running.{Performs};
-ghost use Rattle.resin_evaluation.specs.Runs.{Runs};
-ghost use Rattle.resin_evaluation.specs.Operators.{too_long};
+ghost use Rattle.resin_inputs.specs.Under.lstr.Faults.{GivesText};
+ghost use Rattle.resin_interp.specs.Under.target.Reads.{GivesOrNoMemory};
+ghost use Rattle.resin_interp.specs.Under.eval_nested.Running.{Performs};
+ghost use Rattle.resin_interp.specs.Under.meaning_forms.Runs.{Runs};
+ghost use Rattle.resin_interp.specs.Under.meaning_forms.Operators.{too_long};
 ghost use Rattle.resin_request.specs.Buffers.{joined_outwards, with_closed, close_more, leave_joined, end_buffers};
 
-use resin_base::{Files, Tables};
+use resin_inputs::under::lstr::{Builder, LText, TextFault, Texts};
+use resin_inputs::under::scalar::CallStop;
+use resin_interp::under::base::{Files, Tables};
+use resin_interp::under::step_parts::reads::text_stop;
 use resin_interp::{Machine, Run, Stop, leave_page};
-use resin_lstr::{Builder, LText, TextFault, Texts};
-use resin_scalar::CallStop;
-use resin_steps::reads::text_stop;
 use std::alloc::{AllocError, Global};
 
 // Puts the text of a buffer behind others, where there was a buffer.

@@ -6,6 +6,7 @@ mod buffers;
 mod paths;
 mod request;
 mod source;
+pub mod under;
 
 pub use paths::{BOOT_PATH, PLAIN_KIND, is_open, is_script, kind_of, path_of};
 pub use request::{Finish, run_request};

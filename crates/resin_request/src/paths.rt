@@ -3,7 +3,7 @@ ghost use Rattle.std.specs.Prelude.{◌≡◌, drop, IfOk};
 ghost use Rattle.std.specs.List.{before_first};
 ghost use Rattle.resin_request.specs.Paths.{is_question, has_ending, path_of, is_open, is_script, kind_of};
 
-use resin_bytes::lawful_path;
+use resin_interp::under::bytes::lawful_path;
 use std::alloc::{AllocError, Global};
 
 /// The file that runs before each request.

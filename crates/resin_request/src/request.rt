@@ -1,21 +1,21 @@
 //! One request.
 ghost use Rattle.std.specs.Prelude.{◌≡◌, ◌≤◌, length, Some};
-ghost use Rattle.resin_lstr.specs.Texts.{LONGEST};
-ghost use Rattle.resin_program.specs.Runs.{Does, seen, world};
-ghost use Rattle.resin_invoke.specs.Running.{Performs};
-ghost use Rattle.resin_evaluation.specs.Runs.{Runs};
+ghost use Rattle.resin_inputs.specs.Under.lstr.Texts.{LONGEST};
+ghost use Rattle.resin_interp.specs.Under.meaning.Runs.{Does, seen, world};
+ghost use Rattle.resin_interp.specs.Under.eval_nested.Running.{Performs};
+ghost use Rattle.resin_interp.specs.Under.meaning_forms.Runs.{Runs};
 ghost use Rattle.resin_request.specs.Requests.{has_filters, put_inputs, set_inputs, run_entry, run_boot, run_script, send_file, serve_text, serve_file, serve_found, request_program};
 
 use crate::buffers::end_buffers;
 use crate::paths::{BOOT_PATH, is_open, is_script};
 use crate::source::{run_source, thaw};
-use resin_base::{Calls, Entry, Files, Tables};
 use resin_inputs::InputArrays;
+use resin_inputs::under::value::Value;
 use resin_interp::lent::with_run;
+use resin_interp::under::base::{Calls, Entry, Files, Tables};
+use resin_interp::under::journal::Channel;
+use resin_interp::under::step_parts::reads::plain;
 use resin_interp::{Machine, Run, Stop, leave_page};
-use resin_journal::Channel;
-use resin_steps::reads::plain;
-use resin_value::Value;
 use std::alloc::Global;
 
 /// How the steps of a request come to their end.

@@ -1,20 +1,20 @@
 //! Source texts: what is read of them, and runs.
 ghost use Rattle.std.specs.Prelude.{◌≡◌, ◌≤◌, IfOk, IsTrue, length};
 ghost use Rattle.resin_lex.specs.Lines.{line_of};
-ghost use Rattle.resin_lstr.specs.Texts.{LONGEST};
+ghost use Rattle.resin_inputs.specs.Under.lstr.Texts.{LONGEST};
 ghost use Rattle.resin_parse.specs.Parsed.{parsed};
-ghost use Rattle.resin_program.specs.Runs.{Does, World};
-ghost use Rattle.resin_invoke.specs.Running.{Performs};
-ghost use Rattle.resin_evaluation.specs.Runs.{Runs};
+ghost use Rattle.resin_interp.specs.Under.meaning.Runs.{Does, World};
+ghost use Rattle.resin_interp.specs.Under.eval_nested.Running.{Performs};
+ghost use Rattle.resin_interp.specs.Under.meaning_forms.Runs.{Runs};
 ghost use Rattle.resin_request.specs.Sources.{read_as, run_built, run_source, has_shadow, is_short, thaw};
 
-use resin_base::{Entry, Files, Tables};
 use resin_built::is_built;
+use resin_inputs::under::scalar::ScriptFault;
+use resin_interp::under::base::{Entry, Files, Tables};
+use resin_interp::under::tree::Program;
 use resin_interp::{Machine, Run, Stop, perform};
 use resin_lex::{ParseFault, line_of};
 use resin_parse::program;
-use resin_scalar::ScriptFault;
-use resin_tree::Program;
 use std::alloc::Global;
 
 const MOST_TEXT: usize = 16_777_216;

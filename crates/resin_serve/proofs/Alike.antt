@@ -3,7 +3,7 @@ use Rattle.std.proofs.Common.{◌≡◌, ℕ, ◌+◌, true, List, [], ◌∷◌
 use Rattle.std.specs.Prelude.{◌==◌, if◌then◌else◌, ⊤}
 use Rattle.std.proofs.lemmas.Bool.Decides.{nat_tests}
 use Rattle.resin_site.specs.Keeping.{St, Store, WhereTold}
-use Rattle.resin_http.specs.Stream.{Answer, answers}
+use Rattle.resin_site.specs.Under.http.Stream.{Answer, answers}
 use Rattle.resin_trace.specs.declared.event.TraceEvent.{TraceEvent}
 use Rattle.resin_trace.specs.declared.event.TraceEvent.TheVariants.{Piece, End}
 use Rattle.resin_serve.specs.declared.give.Given.TheVariants.{Whole}

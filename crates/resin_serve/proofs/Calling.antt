@@ -1,9 +1,9 @@
 -- The keeper calls of a run, one answer after another.
 use Rattle.std.proofs.Common.{◌≡◌, ℕ, suc, ◌+◌, ◌<◌, ◌≤◌, ◌==◌, Bool, true, false, cond, ◌||◌, List, [], ◌∷◌, ◌++◌, length, All, sym, ap, ◌∙◌, arith, append_assoc, length-append, subst, refl}
 use Rattle.std.proofs.lemmas.List.Elements.{All-head, All-tail}
-use Rattle.resin_base.specs.Causes.{TellsMore, is_listed}
-use Rattle.resin_program.specs.Programs.{KeeperCall}
-use Rattle.resin_program.specs.Runs.{failures, is_on}
+use Rattle.resin_site.specs.Under.base.Causes.{TellsMore, is_listed}
+use Rattle.resin_site.specs.Under.meaning.Programs.{KeeperCall}
+use Rattle.resin_site.specs.Under.meaning.Runs.{failures, is_on}
 use Rattle.resin_site.specs.Keeping.{Later, St, Tells}
 use Rattle.resin_serve.specs.Meaning.{Meaning, Owed, reply, after_of, calls_of}
 use Rattle.resin_serve.specs.Ran.{World, Called}

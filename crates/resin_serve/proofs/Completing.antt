@@ -2,7 +2,7 @@
 use Rattle.std.proofs.Common.{◌≡◌, ℕ, ◌+◌, ◌<◌, ◌≤◌, min, List, [], ◌++◌, length, Option, Some, refl, sym, ap, ◌∙◌, arith, subst, inl, inr, Bool}
 use Rattle.std.specs.Prelude.{Ok, Err}
 use Rattle.std.proofs.lemmas.List.{nil_from_length}
-use Rattle.resin_base.specs.Causes.{Rose, last_count}
+use Rattle.resin_site.specs.Under.base.Causes.{Rose, last_count}
 use Rattle.resin_trace.specs.declared.reader.TraceFault.TheVariants.{Bad, TooLong}
 use Rattle.resin_trace.specs.Verdicts.{IsGood}
 use Rattle.resin_trace.proofs.Verdicts_of.{one_end}

@@ -1,8 +1,8 @@
 -- No cutting of a stream changes what it asks.
 use Rattle.std.proofs.Common.{◌≡◌, ℕ, ◌+◌, List, [], ◌∷◌, ◌++◌, length, drop, map, refl, sym, ap, ◌∙◌, append_assoc, arith}
 use Rattle.std.proofs.lemmas.List.{append-nil, drop_at, drop_all}
-use Rattle.resin_http.specs.Stream.{Answer, answers}
-use Rattle.resin_http.proofs.StreamLemmas.{answers_grow}
+use Rattle.resin_site.specs.Under.http.Stream.{Answer, answers}
+use Rattle.resin_site.proofs.http_lemmas.StreamLemmas.{answers_grow}
 use Rattle.resin_trace.specs.declared.event.TraceEvent.TheVariants.{Piece}
 use Rattle.resin_serve.specs.Meaning.{Owed, Reply, life, added, order, tagged, bytes_of, after_of, calls_of}
 use Rattle.resin_serve.specs.Cutting.{pieces_on, joined, all_asked, all_told, AnyCutting, AskedTells}

@@ -2,7 +2,7 @@
 use Rattle.std.proofs.Common.{◌≡◌, ◌≢◌, ℕ, ◌+◌, true, false, cond, nat_eq, List, [], ◌∷◌, ◌++◌, length, drop, Option, Some, None, refl, sym, ap, ◌∙◌, arith, append_assoc, subst}
 use Rattle.std.proofs.lemmas.List.{append-nil, length-map, drop_at}
 use Rattle.std.proofs.lemmas.Bool.Decides.{nat_tests}
-use Rattle.resin_http.specs.Stream.{answers, answers_in}
+use Rattle.resin_site.specs.Under.http.Stream.{answers, answers_in}
 use Rattle.resin_trace.specs.declared.event.TraceEvent.{TraceEvent}
 use Rattle.resin_trace.specs.declared.event.TraceEvent.TheVariants.{Piece, End}
 use Rattle.resin_trace.specs.Lines.{Waiting, at, added as added_to}

@@ -1,8 +1,8 @@
 -- What loops over `give` leave.
 use Rattle.std.proofs.Common.{◌≡◌, ℕ, zero, suc, ◌+◌, ◌<◌, true, false, cond, nat_eq, List, [], ◌∷◌, ◌++◌, length, take, drop, map, Option, Some, None, refl, sym, ap, ◌∙◌, arith, append_assoc, subst}
 use Rattle.std.specs.Prelude.{Ok}
-use Rattle.resin_base.specs.Moves.{Gives}
-use Rattle.resin_base.specs.Contents.{Told}
+use Rattle.resin_site.specs.Under.base.Moves.{Gives}
+use Rattle.resin_site.specs.Under.base.Contents.{Told}
 use Rattle.std.proofs.lemmas.List.{append-nil, map-append, take-append-drop, take_all, drop_all}
 use Rattle.resin_serve.specs.declared.give.Given.{Given}
 use Rattle.resin_serve.specs.declared.give.Given.TheVariants.{Whole, Fault, Memory, NotYet}

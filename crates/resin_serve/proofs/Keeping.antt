@@ -2,8 +2,8 @@
 use Rattle.std.proofs.Common.{◌≡◌, ℕ, zero, suc, ◌+◌, ◌<◌, ◌≤◌, Bool, true, false, cond, List, [], ◌∷◌, ◌++◌, length, Option, Some, None, All, refl, sym, ap, ◌∙◌, arith, append_assoc, length-append, subst}
 use Rattle.std.proofs.lemmas.List.{append-nil}
 use Rattle.std.proofs.lemmas.List.Elements.{All-nil, All-cons, All-append}
-use Rattle.resin_base.specs.Causes.{TellsMore, last_count}
-use Rattle.resin_base.specs.Numbering.{RiseWithin}
+use Rattle.resin_site.specs.Under.base.Causes.{TellsMore, last_count}
+use Rattle.resin_site.specs.Under.base.Numbering.{RiseWithin}
 use Rattle.resin_site.specs.Keeping.{Later}
 use Rattle.resin_serve.specs.Kept.{Call, failed_after, of_files, of_tables, Keepers, RoseBy, Kept}
 

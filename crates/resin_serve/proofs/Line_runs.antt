@@ -1,7 +1,7 @@
 -- The answers of one line, one after another.
 use Rattle.std.proofs.Common.{◌≡◌, ℕ, ◌+◌, List, [], ◌∷◌, ◌++◌, length, refl, sym, ap, ◌∙◌, arith, append_assoc, length-append, subst, Option}
 use Rattle.std.proofs.lemmas.List.{append-nil, map-append, length-map}
-use Rattle.resin_http.specs.Stream.{Answer}
+use Rattle.resin_site.specs.Under.http.Stream.{Answer}
 use Rattle.resin_trace.specs.Lines.{Waiting}
 use Rattle.resin_serve.specs.declared.give.Given.{Given}
 use Rattle.resin_serve.specs.declared.give.Given.TheVariants.{Whole, Fault, Memory, NotYet}

@@ -5,8 +5,8 @@ use Rattle.std.specs.List.{flat_map}
 use Rattle.std.proofs.lemmas.List.{drop_at}
 use Rattle.std.proofs.lemmas.Bool.{eqb-true}
 use Rattle.std.proofs.lemmas.Bool.Decides.{nat_tests}
-use Rattle.resin_http.specs.Stream.{Answer, answers, answers_in}
-use Rattle.resin_http.proofs.StreamLemmas.{answers_grow}
+use Rattle.resin_site.specs.Under.http.Stream.{Answer, answers, answers_in}
+use Rattle.resin_site.proofs.http_lemmas.StreamLemmas.{answers_grow}
 use Rattle.resin_trace.specs.declared.event.TraceEvent.{TraceEvent}
 use Rattle.resin_trace.specs.declared.event.TraceEvent.TheVariants.{Piece, End}
 use Rattle.resin_serve.specs.Meaning.{Owed, life, added, order}

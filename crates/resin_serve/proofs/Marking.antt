@@ -3,9 +3,9 @@ use Rattle.std.proofs.Common.{◌≡◌, ◌≢◌, ℕ, true, false, nat_eq, Li
 use Rattle.std.specs.Prelude.{if◌then◌else◌, Result, Ok, Err, OnOk, OnErr}
 use Rattle.std.proofs.lemmas.Bool.{eqb-true}
 use Rattle.std.proofs.lemmas.Bool.Decides.{nat_tests}
-use Rattle.resin_http.specs.declared.marks.Mark.{Mark}
-use Rattle.resin_http.specs.Marks.{IsMark}
-use Rattle.resin_http.proofs.WaitLemmas.{mark_stays}
+use Rattle.resin_site.specs.Under.http.declared.marks.Mark.{Mark}
+use Rattle.resin_site.specs.Under.http.Marks.{IsMark}
+use Rattle.resin_site.proofs.http_lemmas.WaitLemmas.{mark_stays}
 use Rattle.resin_trace.specs.Lines.{Waiting, at, stream_of, added}
 use Rattle.resin_serve.specs.Waiting_streams.{start, mark_at, AreMarks}
 

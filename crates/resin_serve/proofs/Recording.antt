@@ -1,8 +1,8 @@
 -- The log of a recorded run is a journal file, and an audit says Yes of it.
 use Rattle.std.proofs.Common.{◌≡◌, ℕ, suc, ◌+◌, ◌<◌, ◌≤◌, ◌^◌, List, [], ◌∷◌, ◌++◌, length, Option, Some, None, refl, sym, ap, ◌∙◌, arith, subst}
-use Rattle.resin_journal.specs.Access.{ObeysAccessLaw}
-use Rattle.resin_journal_file.specs.Files.{file_from, journal_text}
-use Rattle.resin_journal_file.specs.Limits.{Each, CanBeTold}
+use Rattle.resin_site.specs.Under.journal.Access.{ObeysAccessLaw}
+use Rattle.resin_audit.specs.Under.journal_file.Files.{file_from, journal_text}
+use Rattle.resin_audit.specs.Under.journal_file.Limits.{Each, CanBeTold}
 use Rattle.resin_site.specs.declared.outcome.End.{End}
 use Rattle.resin_site.specs.Keeping.{St}
 use Rattle.resin_site.specs.Laws.{ObeysIn}

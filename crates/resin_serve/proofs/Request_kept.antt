@@ -4,10 +4,10 @@ use Rattle.std.specs.Prelude.{◌||◌, not}
 use Rattle.std.proofs.lemmas.List.{append-nil}
 use Rattle.std.proofs.lemmas.List.Elements.{All-nil}
 use Rattle.std.proofs.lemmas.Bool.Decides.{nat_tests}
-use Rattle.resin_base.specs.Causes.{TellsMore, Counted, is_listed, last_count}
-use Rattle.resin_base.specs.Numbering.{RiseWithin}
-use Rattle.resin_program.specs.Programs.{KeeperCall}
-use Rattle.resin_program.specs.Runs.{failures}
+use Rattle.resin_site.specs.Under.base.Causes.{TellsMore, Counted, is_listed, last_count}
+use Rattle.resin_site.specs.Under.base.Numbering.{RiseWithin}
+use Rattle.resin_site.specs.Under.meaning.Programs.{KeeperCall}
+use Rattle.resin_site.specs.Under.meaning.Runs.{failures}
 use Rattle.resin_site.specs.Keeping.{Faults, faults, Blames, Later, answers, Tells}
 use Rattle.resin_serve.specs.Kept.{Call, failed_after, of_files, of_tables, keepers, Kept}
 

@@ -8,15 +8,15 @@ use Rattle.resin_site.specs.Keeping.{Store, St, WhereTold, Later, Tells}
 use Rattle.resin_serve.specs.Meaning.{Meaning, Owed, tagged, reply, bytes_of, after_of, calls_of, IsLawfulAnswer, AllObey}
 use Rattle.std.specs.declared.alloc.AllocError.{AllocError}
 use Rattle.std.specs.Prelude.{Ok, Err}
-use Rattle.resin_http.specs.Stream.{asks, refuses}
+use Rattle.resin_site.specs.Under.http.Stream.{asks, refuses}
 use Rattle.resin_serve.specs.Gives.{GaveAll, three}
-use Rattle.resin_http.specs.declared.request.Request.{Request}
+use Rattle.resin_site.specs.Under.http.declared.request.Request.{Request}
 use Rattle.resin_site.specs.declared.outcome.Outcome.{Outcome}
 use Rattle.resin_site.specs.declared.outcome.End.TheVariants.{NotYet as Unbuilt}
 use Rattle.resin_site.specs.Laws.{IsLawful, Obeys, ObeysIn}
 use Rattle.resin_site.specs.Serving.{Served, IsReply}
 use Rattle.resin_site.specs.Outcomes.{refusal_text}
-use Rattle.resin_program.specs.Runs.{Reached}
+use Rattle.resin_site.specs.Under.meaning.Runs.{Reached}
 use Rattle.resin_site.specs.Replies as site
 use Rattle.resin_serve.specs.declared.logging.Logging.{Logging}
 use Rattle.resin_serve.specs.declared.run.Service.{Service}

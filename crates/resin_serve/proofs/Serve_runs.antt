@@ -4,9 +4,9 @@ use Rattle.std.specs.Prelude.{Ok, Err, ◌||◌}
 use Rattle.std.proofs.lemmas.List.{append-nil, take_all, take-append-le, take_at, take-append-drop, append_cancel_left}
 use Rattle.std.proofs.lemmas.Bool.{ltb-true, ltb-false}
 use Rattle.std.proofs.Math.Seq.{take-append-add}
-use Rattle.resin_base.specs.Contents.{Told}
-use Rattle.resin_base.specs.Moves.{Takes}
-use Rattle.resin_base.specs.declared.faults.Failed.{Failed}
+use Rattle.resin_site.specs.Under.base.Contents.{Told}
+use Rattle.resin_site.specs.Under.base.Moves.{Takes}
+use Rattle.resin_site.specs.Under.base.declared.faults.Failed.{Failed}
 use Rattle.resin_trace.specs.declared.event.TraceEvent.{TraceEvent}
 use Rattle.resin_trace.specs.declared.reader.TraceFault.TheVariants.{Bad as BadFault, TooLong as LongFault}
 use Rattle.resin_trace.specs.Records.{limit, Spells, Splits, NoRecord, CanGo, Front, Records}
@@ -24,7 +24,7 @@ use Rattle.resin_serve.specs.declared.run.Ready.TheVariants.{Wait, Bad, TooLong}
 use Rattle.resin_serve.specs.declared.status.Status.{Status}
 use Rattle.resin_serve.specs.declared.status.Status.TheVariants.{Usage, BadTrace, ReadFault, WriteFault, TraceTooLong, AuditRefused}
 use Rattle.resin_serve.specs.declared.status.Status.TheVariants.{Ok as StatusOk, Memory as StatusMemory, NotYet as StatusNotYet}
-use Rattle.resin_http.specs.Stream.{answers_in}
+use Rattle.resin_site.specs.Under.http.Stream.{answers_in}
 use Rattle.resin_serve.specs.Meaning.{Meaning, Owed, fresh, order, life}
 use Rattle.resin_serve.specs.Ran.{World, Ran}
 use Rattle.resin_serve.specs.Lines.{Hold}

@@ -2,9 +2,9 @@
 use Rattle.std.proofs.Common.{◌≡◌, ℕ, zero, suc, ◌+◌, ◌-◌, ◌<◌, ◌≤◌, true, false, cond, List, [], ◌∷◌, ◌++◌, length, drop, Option, Some, None, refl, sym, ap, ◌∙◌, arith, append_assoc, length-append, length-drop, subst}
 use Rattle.std.specs.Prelude.{IsSome}
 use Rattle.std.proofs.lemmas.List.{append-nil, drop-append-le}
-use Rattle.resin_http.specs.declared.request.Request.{Request}
-use Rattle.resin_http.specs.Stream.{Answer, asks, refuses, first, answers, answers_in, on_answer}
-use Rattle.resin_http.proofs.StreamLemmas.{front_of, answers_none, answers_some}
+use Rattle.resin_site.specs.Under.http.declared.request.Request.{Request}
+use Rattle.resin_site.specs.Under.http.Stream.{Answer, asks, refuses, first, answers, answers_in, on_answer}
+use Rattle.resin_site.proofs.http_lemmas.StreamLemmas.{front_of, answers_none, answers_some}
 use Rattle.resin_trace.specs.Lines.{Waiting, stream_of, added, used}
 use Rattle.resin_serve.specs.Lines.{still}
 

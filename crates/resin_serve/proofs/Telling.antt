@@ -1,12 +1,12 @@
 -- Events, texts and sets that a journal file can tell, one item after another.
 use Rattle.std.proofs.Common.{◌≡◌, ℕ, zero, suc, ◌-◌, ◌<◌, List, [], ◌∷◌, ◌++◌, length, replicate, get_or, sym, arith, subst}
-use Rattle.resin_label.specs.Sets.{NumberSet}
-use Rattle.resin_lstr.specs.declared.text.Run.{Run}
-use Rattle.resin_lstr.specs.Runs.{spell}
-use Rattle.resin_journal.specs.Events.{EventList}
-use Rattle.resin_journal.specs.declared.event.Event.{Event}
-use Rattle.resin_journal.specs.Access.{TellsNames, ClassesAreNames}
-use Rattle.resin_journal_file.specs.Limits.{Each}
+use Rattle.resin_site.specs.Under.label.Sets.{NumberSet}
+use Rattle.resin_site.specs.Under.lstr.declared.text.Run.{Run}
+use Rattle.resin_site.specs.Under.lstr.Runs.{spell}
+use Rattle.resin_site.specs.Under.journal.Events.{EventList}
+use Rattle.resin_site.specs.Under.journal.declared.event.Event.{Event}
+use Rattle.resin_site.specs.Under.journal.Access.{TellsNames, ClassesAreNames}
+use Rattle.resin_audit.specs.Under.journal_file.Limits.{Each}
 use Rattle.resin_serve.specs.declared.logging.Logging.{Logging}
 use Rattle.resin_serve.specs.Logs.{CanTell}
 

@@ -1,7 +1,7 @@
 -- A stream that comes in pieces (this project).
 use Rattle.std.specs.Prelude.{◌≡◌, ℕ, ◌==◌, List, [], ◌∷◌, ◌++◌, length, drop, if◌then◌else◌, ⊤}
 use Rattle.std.specs.List.{flat_map}
-use Rattle.resin_http.specs.Stream.{Answer, answers}
+use Rattle.resin_site.specs.Under.http.Stream.{Answer, answers}
 use Rattle.resin_trace.specs.declared.event.TraceEvent.{TraceEvent}
 use Rattle.resin_trace.specs.declared.event.TraceEvent.TheVariants.{Piece, End}
 use Rattle.resin_trace.specs.Records.{Records}

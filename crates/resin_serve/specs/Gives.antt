@@ -1,6 +1,6 @@
 -- What the loops over `give` leave, and their causes (this project).
 use Rattle.std.specs.Prelude.{◌≡◌, ◌≢◌, ℕ, ◌<◌, List, [], ◌++◌, length, take, map, Option, ◌⊎◌}
-use Rattle.resin_base.specs.Causes.{Rose}
+use Rattle.resin_site.specs.Under.base.Causes.{Rose}
 use Rattle.resin_serve.specs.declared.give.Given.{Given}
 use Rattle.resin_serve.specs.declared.give.Given.TheVariants.{Whole, Fault, Memory, NotYet}
 use Rattle.resin_serve.specs.Ran.{Grew, Gained, World}

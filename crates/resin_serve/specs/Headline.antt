@@ -1,6 +1,6 @@
 -- What `serve` answers (this project).
 use Rattle.std.specs.Prelude.{ℕ, ⊤}
-use Rattle.resin_base.specs.Causes.{Rose}
+use Rattle.resin_site.specs.Under.base.Causes.{Rose}
 use Rattle.resin_serve.specs.declared.status.Status.{Status}
 use Rattle.resin_serve.specs.declared.status.Status.TheVariants.{Usage, BadTrace, ReadFault, WriteFault, TraceTooLong, NotYet, AuditRefused}
 use Rattle.resin_serve.specs.declared.status.Status.TheVariants.{Ok as StatusOk, Memory as StatusMemory}

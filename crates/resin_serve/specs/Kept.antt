@@ -1,6 +1,6 @@
 -- The keeper calls of a run: their numbers, what the keepers tell of them, and their causes (this project).
 use Rattle.std.specs.Prelude.{◌≡◌, ℕ, ◌+◌, ◌<◌, ◌≤◌, Bool, List, [], ◌∷◌, ◌++◌, length, Option, if◌then◌else◌}
-use Rattle.resin_base.specs.Causes.{TellsMore, last_count}
+use Rattle.resin_site.specs.Under.base.Causes.{TellsMore, last_count}
 
 -- a call: whether it was on the tables, else on the files, and whether it failed
 pub record Call : Type 0 where

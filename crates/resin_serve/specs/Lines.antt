@@ -1,6 +1,6 @@
 -- What a connection still gives (this project).
 use Rattle.std.specs.Prelude.{◌≡◌, ℕ, List, [], ◌++◌, if◌then◌else◌, Option, Some, None, map}
-use Rattle.resin_http.specs.Stream.{Answer, answers}
+use Rattle.resin_site.specs.Under.http.Stream.{Answer, answers}
 use Rattle.resin_trace.specs.declared.event.TraceEvent.{TraceEvent}
 use Rattle.resin_trace.specs.Lines.{Waiting, at}
 use Rattle.resin_serve.specs.Meaning.{Owed, life}

@@ -1,9 +1,9 @@
 -- What an answer puts into the log (this project).
 use Rattle.std.specs.Prelude.{ℕ, List, ⊤}
-use Rattle.resin_journal.specs.Events.{EventList}
-use Rattle.resin_journal.specs.Lines.{log_of}
-use Rattle.resin_journal_file.specs.Files.{journal_text}
-use Rattle.resin_journal_file.specs.Limits.{Each, IsNumber, CanBeTold}
+use Rattle.resin_site.specs.Under.journal.Events.{EventList}
+use Rattle.resin_site.specs.Under.journal.Lines.{log_of}
+use Rattle.resin_audit.specs.Under.journal_file.Files.{journal_text}
+use Rattle.resin_audit.specs.Under.journal_file.Limits.{Each, IsNumber, CanBeTold}
 use Rattle.resin_serve.specs.declared.logging.Logging.{Logging}
 use Rattle.resin_serve.specs.declared.logging.Logging.TheVariants.{Denials, Journals}
 

@@ -1,10 +1,10 @@
 -- The meaning of a run (this project): what each stream is owed, in the order in which records complete it, and one request after another.
 use Rattle.std.specs.Prelude.{ℕ, ◌+◌, ◌==◌, Bool, List, [], ◌∷◌, ◌++◌, length, drop, map, if◌then◌else◌, ⊤}
-use Rattle.resin_program.specs.Programs.{KeeperCall, Moment}
+use Rattle.resin_site.specs.Under.meaning.Programs.{KeeperCall, Moment}
 use Rattle.resin_site.specs.Keeping.{St}
 use Rattle.resin_trace.specs.declared.event.TraceEvent.{TraceEvent}
 use Rattle.resin_trace.specs.declared.event.TraceEvent.TheVariants.{Piece, End}
-use Rattle.resin_http.specs.Stream.{Answer, answers}
+use Rattle.resin_site.specs.Under.http.Stream.{Answer, answers}
 use Rattle.resin_site.specs.Laws.{Obeys}
 use Rattle.resin_site.specs.Replies as site
 use Rattle.resin_serve.specs.declared.logging.Logging.{Logging}

@@ -2,8 +2,8 @@
 use Rattle.std.specs.Prelude.{◌≡◌, ◌≢◌, ℕ, ◌+◌, ◌==◌, true, List, [], ◌∷◌, ◌++◌, length, if◌then◌else◌, Option, Some, None, ⊤, ◌⊎◌}
 use Rattle.resin_serve.specs.declared.give.Given.{Given}
 use Rattle.resin_serve.specs.declared.give.Given.TheVariants.{Whole, Fault, Memory, NotYet}
-use Rattle.resin_program.specs.Programs.{KeeperCall, Moment}
-use Rattle.resin_program.specs.Runs.{Reached}
+use Rattle.resin_site.specs.Under.meaning.Programs.{KeeperCall, Moment}
+use Rattle.resin_site.specs.Under.meaning.Runs.{Reached}
 use Rattle.resin_site.specs.Keeping.{Store, St, WhereTold, Answers, Tells}
 use Rattle.resin_serve.specs.Meaning.{Meaning, Owed, tagged, reply, bytes_of, after_of, calls_of, AllObey}
 

@@ -1,8 +1,8 @@
 -- What the log of a recorded run is (this project).
 use Rattle.std.specs.Prelude.{ℕ, ◌+◌, List, [], ◌∷◌, length}
 use Rattle.resin_site.specs.Keeping.{St}
-use Rattle.resin_journal.specs.Events.{EventList}
-use Rattle.resin_journal_file.specs.Files.{file_of}
+use Rattle.resin_site.specs.Under.journal.Events.{EventList}
+use Rattle.resin_audit.specs.Under.journal_file.Files.{file_of}
 use Rattle.resin_audit.specs.declared.verdict.Verdict.TheVariants.{Yes}
 use Rattle.resin_audit.specs.Verdicts.{Says, events_in}
 use Rattle.resin_serve.specs.declared.logging.Logging.TheVariants.{Journals}

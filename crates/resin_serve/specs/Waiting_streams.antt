@@ -1,8 +1,8 @@
 -- The streams of connections, with how far each was read (this project).
 use Rattle.std.specs.Prelude.{ℕ, List, Option, get_or}
-use Rattle.resin_http.specs.declared.marks.Mark.{Mark}
-use Rattle.resin_http.specs.declared.marks.Mark.TheVariants.{Head}
-use Rattle.resin_http.specs.Marks.{IsMark}
+use Rattle.resin_site.specs.Under.http.declared.marks.Mark.{Mark}
+use Rattle.resin_site.specs.Under.http.declared.marks.Mark.TheVariants.{Head}
+use Rattle.resin_site.specs.Under.http.Marks.{IsMark}
 use Rattle.resin_trace.specs.Lines.{Waiting, at, stream_of}
 
 -- nothing is known

@@ -7,7 +7,7 @@ use Rattle.resin_trace.specs.Reads.{Finishes}
 use Rattle.resin_trace.specs.declared.reader.TraceFault.TheVariants.{Bad, TooLong}
 use Rattle.resin_trace.specs.Lines.{Waiting}
 use Rattle.resin_trace.specs.Verdicts.{IsGood, IsBad, IsLong, HasRead}
-use Rattle.resin_base.specs.Causes.{Rose}
+use Rattle.resin_site.specs.Under.base.Causes.{Rose}
 use Rattle.resin_serve.specs.declared.give.Given.{Given}
 use Rattle.resin_serve.specs.declared.give.Given.TheVariants.{Whole}
 use Rattle.resin_serve.specs.declared.give.Given.TheVariants.{Fault as GivenFault, Memory as GivenMemory, NotYet as GivenNotYet}

@@ -1,6 +1,6 @@
 -- What reading a source to its end gives.
 use Rattle.std.specs.Prelude.{◌≡◌, ℕ, ◌<◌, ◌≤◌, List, length, Result, Ok, Err, ⊤}
-use Rattle.resin_base.specs.Causes.{Rose}
+use Rattle.resin_site.specs.Under.base.Causes.{Rose}
 use Rattle.resin_trace.specs.Records.{limit}
 use Rattle.resin_serve.specs.declared.auditing.Unread.{Unread}
 use Rattle.resin_serve.specs.declared.auditing.Unread.TheVariants.{Fault, TooLong, Memory}

@@ -11,7 +11,7 @@ use crate::give::{Given, give_all};
 use crate::status::Status;
 use itoa::Buffer;
 use resin_audit::{Verdict, audit};
-use resin_base::{Bytes, Sink, Source};
+use resin_site::under::base::{Bytes, Sink, Source};
 use std::alloc::{AllocError, Global};
 
 /// The length of the longest text that is audited, in bytes: that of the longest trace.

@@ -4,7 +4,7 @@ ghost use Rattle.resin_site.specs.Keeping.{Answers, Store};
 ghost use Rattle.resin_serve.specs.Ran.{world};
 ghost use Rattle.resin_serve.specs.Gives.{Gave, GaveAll, Caused, CausedIn, counts, sinks, three};
 
-use resin_base::{KeepFault, Sink};
+use resin_site::under::base::{KeepFault, Sink};
 
 /// How far serving came.
 #[derive(Clone, Copy, Debug, PartialEq, Eq)]

@@ -1,16 +1,16 @@
 //! What the answers of a run put into the log.
 ghost use Rattle.std.specs.Prelude.{◌≡◌, IfOk};
-ghost use Rattle.resin_journal.specs.Access.{TellsNames, ClassesAreNames};
-ghost use Rattle.resin_label.specs.Sets.{numbers};
-ghost use Rattle.resin_journal_file.specs.Limits.{Each, IsNumber, IsObject, IsLabelled, CanBeTold};
+ghost use Rattle.resin_site.specs.Under.journal.Access.{TellsNames, ClassesAreNames};
+ghost use Rattle.resin_site.specs.Under.label.Sets.{numbers};
+ghost use Rattle.resin_audit.specs.Under.journal_file.Limits.{Each, IsNumber, IsObject, IsLabelled, CanBeTold};
 ghost use Rattle.resin_serve.specs.Logs.{logged, CanTell};
 
-use resin_base::Bytes;
-use resin_journal::{Event, Journal};
-use resin_journal_file::journal_text;
-use resin_label::PSet;
-use resin_lstr::LText;
+use resin_audit::under::journal_file::journal_text;
 use resin_site::log_text;
+use resin_site::under::base::Bytes;
+use resin_site::under::journal::{Event, Journal};
+use resin_site::under::label::PSet;
+use resin_site::under::lstr::LText;
 use std::alloc::{AllocError, Global};
 
 /// What the answers of a run put into the log.

@@ -3,7 +3,7 @@ ghost use Rattle.std.specs.Prelude.{◌≡◌, IfOk};
 ghost use Rattle.resin_serve.specs.Records.{record_text};
 
 use itoa::Buffer;
-use resin_base::Bytes;
+use resin_site::under::base::Bytes;
 use std::alloc::{AllocError, Global};
 
 /// The record of a response: `<conn> <len>`, a newline, the response and a newline.

@@ -2,7 +2,7 @@
 ghost use Rattle.std.specs.Prelude.{◌≡◌};
 ghost use Rattle.resin_serve.specs.Codes.{code_of};
 
-use resin_base::FailList;
+use resin_site::under::base::FailList;
 
 /// What `serve` leaves: how it ended, how many keeper calls it made, and the numbers of those that failed. Keeper calls are those on the
 /// files and on the tables together, numbered from 1; one that found no memory isn't counted.

@@ -1,7 +1,7 @@
 //! The top call.
 ghost use Rattle.std.specs.Prelude.{◌≡◌, ◌≢◌, ◌≤◌, ◌+◌, ◌<◌, [], ℕ, List, Some, None, ◌↔◌, map, string_bytes, length, OnOk};
-ghost use Rattle.resin_base.specs.Causes.{last_count};
-ghost use Rattle.resin_base.specs.Numbering.{RiseWithin, AreNumbered};
+ghost use Rattle.resin_site.specs.Under.base.Causes.{last_count};
+ghost use Rattle.resin_site.specs.Under.base.Numbering.{RiseWithin, AreNumbered};
 ghost use Rattle.resin_trace.specs.Lines.{at};
 ghost use Rattle.resin_trace.specs.Seen.{fed};
 ghost use Rattle.resin_trace.specs.Verdicts.{IsGood};
@@ -23,8 +23,8 @@ use crate::run::{Ready, Run, Service, serve_ready};
 use crate::status::{Ended, Status};
 use crate::waiting::WaitingStreams;
 use crate::words::{Task, task_of};
-use resin_base::{Calls, FailList, Files, Sink, Source, Tables};
 use resin_site::Site;
+use resin_site::under::base::{Calls, FailList, Files, Sink, Source, Tables};
 use resin_trace::{TraceFault, TraceReader};
 use std::alloc::{AllocError, Global};
 

@@ -1,11 +1,11 @@
 //! The streams of connections, with how far each was read.
 ghost use Rattle.std.specs.Prelude.{◌≡◌, ◌≢◌, ◌≤◌, ◌<◌, ◌⊎◌, ℕ, [], length, OnOk, OnErr, IfOk, Some, None, IsSome, true};
-ghost use Rattle.resin_http.specs.Stream.{first};
-ghost use Rattle.resin_http.specs.Steps.{Steps, Fits};
+ghost use Rattle.resin_site.specs.Under.http.Stream.{first};
+ghost use Rattle.resin_site.specs.Under.http.Steps.{Steps, Fits};
 ghost use Rattle.resin_trace.specs.Lines.{at, stream_of, added, used};
 ghost use Rattle.resin_serve.specs.Waiting_streams.{mark_at, start};
 
-use resin_http::{Mark, Step, next_marked};
+use resin_site::under::http::{Mark, Step, next_marked};
 use resin_trace::Connections;
 use std::alloc::{AllocError, Global};
 use std::marker::Model;

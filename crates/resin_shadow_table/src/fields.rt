@@ -1,8 +1,8 @@
 //! How bytes, numbers, sets and texts are spelled in a row, read and written.
 
 use crate::stop::Stop;
-use resin_label::PSet;
-use resin_lstr::{Builder, LText, TextFault};
+use resin_value::under::label::PSet;
+use resin_value::under::lstr::{Builder, LText, TextFault};
 use std::alloc::{AllocError, Global};
 
 // The byte that stands behind a backslash.

@@ -3,11 +3,11 @@
 use crate::fields::{bytes_in, push_bytes};
 use crate::stop::Stop;
 use crate::values::{push_value, value_in};
-use resin_bytes::Bytes;
 use resin_frozen::{
     FreezeFault, Frozen, Rest, Stop as ReadStop, are_fields, freeze, is_class, thaw,
 };
 use resin_value::Fields;
+use resin_value::under::bytes::Bytes;
 use std::alloc::Global;
 
 // The fields that a row spells.

@@ -1,7 +1,7 @@
 //! Why a row has no answer.
 
-use resin_lstr::TextFault;
 use resin_value::ArrFault;
+use resin_value::under::lstr::TextFault;
 use std::alloc::AllocError;
 
 /// Why a call gives no answer.

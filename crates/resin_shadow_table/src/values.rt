@@ -2,7 +2,7 @@
 
 use crate::fields::{bytes_in, digits_in, integer_in, number_in, push_bytes, text_in};
 use crate::stop::Stop;
-use resin_lstr::LText;
+use resin_value::under::lstr::LText;
 use resin_value::{Arr, Key, Value};
 use std::alloc::{AllocError, Global};
 

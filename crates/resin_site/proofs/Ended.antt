@@ -1,11 +1,11 @@
 -- How a request ends, by how its steps do.
 use Rattle.std.proofs.Common.{◌≡◌, ◌≢◌, ℕ, Bool, List, [], ◌∷◌, ◌++◌, Result, Ok, Err, refl, sym, ap, ◌∙◌, subst, ◌⊎◌, inl, inr}
-use Rattle.resin_machine.specs.declared.stop.Stop.{Stop}
-use Rattle.resin_machine.specs.declared.stop.Stop.TheVariants.{Thrown, Memory}
-use Rattle.resin_machine.specs.declared.stop.Stop.TheVariants as stop
-use Rattle.resin_machine.specs.State.{State}
-use Rattle.resin_program.specs.Runs.{World}
-use Rattle.resin_program.specs.Runs as runs
+use Rattle.resin_request.specs.Under.machine.declared.stop.Stop.{Stop}
+use Rattle.resin_request.specs.Under.machine.declared.stop.Stop.TheVariants.{Thrown, Memory}
+use Rattle.resin_request.specs.Under.machine.declared.stop.Stop.TheVariants as stop
+use Rattle.resin_request.specs.Under.machine.State.{State}
+use Rattle.resin_request.specs.Under.meaning.Runs.{World}
+use Rattle.resin_request.specs.Under.meaning.Runs as runs
 use Rattle.resin_request.specs.declared.request.Finish.{Finish}
 use Rattle.resin_request.specs.declared.request.Finish.TheVariants as finish
 use Rattle.resin_site.specs.declared.outcome.End.TheVariants.{Served, NotFound, Uncaught, Fault, Keeper, NotYet}

@@ -4,16 +4,16 @@ use Rattle.std.specs.Prelude.{All, ⊤}
 use Rattle.std.specs.List.{list_any}
 use Rattle.std.proofs.lemmas.List.Folds.{list_any-append}
 use Rattle.std.proofs.lemmas.List.Elements.{All-head, All-tail, All-cons}
-use Rattle.resin_base.specs.Causes.{is_listed, Counted, TellsMore}
-use Rattle.resin_base.specs.FileStore.{FileStore}
-use Rattle.resin_base.specs.TableStore.{TableStore}
-use Rattle.resin_base.specs.Numbering.{AreNumbered}
-use Rattle.resin_machine.specs.declared.stop.Stop.{Stop}
-use Rattle.resin_machine.specs.declared.stop.Stop.TheVariants.{Thrown, Exit, Fault, Keeper, Memory}
-use Rattle.resin_program.specs.Programs.{Prog}
-use Rattle.resin_program.specs.Runs.{World, Goes, NoneFailed, LastFailed, Agrees, Does, done}
-use Rattle.resin_program.specs.Runs as runs
-use Rattle.resin_program.proofs.Composition.{numbered_after}
+use Rattle.resin_request.specs.Under.base.Causes.{is_listed, Counted, TellsMore}
+use Rattle.resin_request.specs.Under.base.FileStore.{FileStore}
+use Rattle.resin_request.specs.Under.base.TableStore.{TableStore}
+use Rattle.resin_request.specs.Under.base.Numbering.{AreNumbered}
+use Rattle.resin_request.specs.Under.machine.declared.stop.Stop.{Stop}
+use Rattle.resin_request.specs.Under.machine.declared.stop.Stop.TheVariants.{Thrown, Exit, Fault, Keeper, Memory}
+use Rattle.resin_request.specs.Under.meaning.Programs.{Prog}
+use Rattle.resin_request.specs.Under.meaning.Runs.{World, Goes, NoneFailed, LastFailed, Agrees, Does, done}
+use Rattle.resin_request.specs.Under.meaning.Runs as runs
+use Rattle.resin_request.proofs.meaning_lemmas.Composition.{numbered_after}
 use Rattle.resin_site.specs.Keeping.{Store, WhereTold, store_of, Later, Passes, Faults, faults, Blames, answers, Tells}
 
 above_not : (made n k : ℕ) → made < k → n ≤ made → (k == n) ≡ false

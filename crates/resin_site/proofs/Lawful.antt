@@ -1,10 +1,10 @@
 -- Outcomes obey the access law.
 use Rattle.std.proofs.Common.{◌≡◌, ℕ, ◌<◌, Bool, true, List, [], ◌++◌, refl, ap, sym, subst, inl, inr, ◌⊎◌}
 use Rattle.std.specs.Prelude.{decimal}
-use Rattle.resin_journal.specs.Access.{ObeysAccessLaw}
-use Rattle.resin_stage.specs.Stages.{Stage}
-use Rattle.resin_stage.specs.Ties.{IsTied, sent_lines, IsOneOf}
-use Rattle.resin_stage.specs.Writes as writes
+use Rattle.resin_request.specs.Under.journal.Access.{ObeysAccessLaw}
+use Rattle.resin_request.specs.Under.stage.Stages.{Stage}
+use Rattle.resin_request.specs.Under.stage.Ties.{IsTied, sent_lines, IsOneOf}
+use Rattle.resin_request.specs.Under.stage.Writes as writes
 use Rattle.resin_site.specs.declared.outcome.End.{End}
 use Rattle.resin_site.specs.declared.outcome.End.TheVariants.{Served}
 use Rattle.resin_site.specs.Laws.{IsLawful}

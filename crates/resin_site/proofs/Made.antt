@@ -1,15 +1,15 @@
 -- How outcomes and logs are made.
 use Rattle.std.proofs.Common.{◌≡◌, ℕ, ◌+◌, ◌≤◌, Bool, true, false, List, [], ◌∷◌, ◌++◌, length, drop, Result, Ok, Err, refl, sym, ap, ◌∙◌, append_assoc, append-nil, subst}
 use Rattle.std.specs.Prelude.{IfOk, OnOk, unwrap_or, if◌then◌else◌}
-use Rattle.resin_bytes.specs.declared.header.Header.{Header}
-use Rattle.resin_http.specs.Response.{response}
-use Rattle.resin_journal.specs.declared.event.Event.{Event}
-use Rattle.resin_journal.specs.Events.{EventList}
-use Rattle.resin_journal.specs.Lines.{line_of, log_of}
-use Rattle.resin_stage.specs.Stages.{Stage}
-use Rattle.resin_machine.specs.declared.stop.Stop.{Stop}
-use Rattle.resin_machine.specs.State.{State}
-use Rattle.resin_program.proofs.Composition.{nothing_left}
+use Rattle.resin_request.specs.Under.bytes.declared.header.Header.{Header}
+use Rattle.resin_request.specs.Under.http.Response.{response}
+use Rattle.resin_request.specs.Under.journal.declared.event.Event.{Event}
+use Rattle.resin_request.specs.Under.journal.Events.{EventList}
+use Rattle.resin_request.specs.Under.journal.Lines.{line_of, log_of}
+use Rattle.resin_request.specs.Under.stage.Stages.{Stage}
+use Rattle.resin_request.specs.Under.machine.declared.stop.Stop.{Stop}
+use Rattle.resin_request.specs.Under.machine.State.{State}
+use Rattle.resin_request.proofs.meaning_lemmas.Composition.{nothing_left}
 use Rattle.resin_request.specs.declared.request.Finish.{Finish}
 use Rattle.resin_site.specs.declared.outcome.End.{End}
 use Rattle.resin_site.specs.declared.outcome.Outcome.{Outcome}

@@ -2,19 +2,19 @@
 use Rattle.std.proofs.Common.{◌≡◌, ◌≢◌, ℕ, ◌+◌, Bool, List, [], ◌∷◌, ◌++◌, length, Option, Some, Result, Ok, Err, refl, sym, ap, ◌∙◌, arith, subst, ◌⊎◌, inl, inr}
 use Rattle.std.specs.Prelude.{IfOk, OnOk}
 use Rattle.std.specs.declared.alloc.AllocError.{AllocError}
-use Rattle.resin_base.specs.FileStore.{FileStore}
-use Rattle.resin_base.specs.TableStore.{TableStore}
-use Rattle.resin_base.specs.Numbering.{AreNumbered}
-use Rattle.resin_base.specs.declared.calls.Calls.{Calls}
-use Rattle.resin_http.specs.declared.request.Request.{Request}
-use Rattle.resin_http.specs.Inputs.{inputs_of}
-use Rattle.resin_inputs.specs.declared.arrays.InputArrays.{InputArrays}
-use Rattle.resin_machine.specs.Keeping.{Tied}
-use Rattle.resin_machine.specs.declared.stop.Stop.{Stop}
-use Rattle.resin_machine.specs.declared.stop.Stop.TheVariants.{Memory}
-use Rattle.resin_machine.specs.State.{State, new_state}
-use Rattle.resin_program.specs.Programs.{Prog, KeeperCall, Moment, moment, Out}
-use Rattle.resin_program.specs.Runs.{Seen, World, world, Does, done, Meets, IsAt, IsAmong, Reached, Blames}
+use Rattle.resin_request.specs.Under.base.FileStore.{FileStore}
+use Rattle.resin_request.specs.Under.base.TableStore.{TableStore}
+use Rattle.resin_request.specs.Under.base.Numbering.{AreNumbered}
+use Rattle.resin_request.specs.Under.base.declared.calls.Calls.{Calls}
+use Rattle.resin_request.specs.Under.http.declared.request.Request.{Request}
+use Rattle.resin_request.specs.Under.http.Inputs.{inputs_of}
+use Rattle.resin_request.specs.Under.inputs.declared.arrays.InputArrays.{InputArrays}
+use Rattle.resin_request.specs.Under.machine.Keeping.{Tied}
+use Rattle.resin_request.specs.Under.machine.declared.stop.Stop.{Stop}
+use Rattle.resin_request.specs.Under.machine.declared.stop.Stop.TheVariants.{Memory}
+use Rattle.resin_request.specs.Under.machine.State.{State, new_state}
+use Rattle.resin_request.specs.Under.meaning.Programs.{Prog, KeeperCall, Moment, moment, Out}
+use Rattle.resin_request.specs.Under.meaning.Runs.{Seen, World, world, Does, done, Meets, IsAt, IsAmong, Reached, Blames}
 use Rattle.resin_request.specs.declared.request.Finish.{Finish}
 use Rattle.resin_request.specs.Paths.{path_of}
 use Rattle.resin_request.specs.Requests.{request_program}

@@ -1,11 +1,11 @@
 -- What the keepers hold over the calls of a run, and which of the calls fail (this project).
 use Rattle.std.specs.Prelude.{◌≡◌, ℕ, ◌+◌, ◌<◌, false, true, List, [], ◌∷◌, ◌++◌, length, All, Bool, Option, Some, None, ⊤, ◌⊎◌}
-use Rattle.resin_base.specs.Causes.{Counted, TellsMore}
-use Rattle.resin_base.specs.FileStore.{FileStore}
-use Rattle.resin_base.specs.TableStore.{TableStore}
-use Rattle.resin_program.specs.Programs.{KeeperCall}
-use Rattle.resin_program.specs.Programs as programs
-use Rattle.resin_program.specs.Runs.{failures}
+use Rattle.resin_request.specs.Under.base.Causes.{Counted, TellsMore}
+use Rattle.resin_request.specs.Under.base.FileStore.{FileStore}
+use Rattle.resin_request.specs.Under.base.TableStore.{TableStore}
+use Rattle.resin_request.specs.Under.meaning.Programs.{KeeperCall}
+use Rattle.resin_request.specs.Under.meaning.Programs as programs
+use Rattle.resin_request.specs.Under.meaning.Runs.{failures}
 
 -- what the keepers hold
 abbrev pub Store : Type 0

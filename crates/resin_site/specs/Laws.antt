@@ -1,8 +1,8 @@
 -- The access law of an answer: data leaves only through checked writes, and the answer is what they sent (RESIN's claim, over this project's journal).
 use Rattle.std.specs.Prelude.{◌≡◌, ◌≢◌, ℕ, Bool, List, [], ◌++◌, decimal, ◌⊎◌, Option, Some, None}
-use Rattle.resin_http.specs.Response.{response}
-use Rattle.resin_journal.specs.Access.{ObeysAccessLaw, ClassesAreNames}
-use Rattle.resin_stage.specs.Ties.{sent_body, sent_mails, sent_headers, sent_lines, IsPartOf, IsOneOf}
+use Rattle.resin_request.specs.Under.http.Response.{response}
+use Rattle.resin_request.specs.Under.journal.Access.{ObeysAccessLaw, ClassesAreNames}
+use Rattle.resin_request.specs.Under.stage.Ties.{sent_body, sent_mails, sent_headers, sent_lines, IsPartOf, IsOneOf}
 use Rattle.resin_site.specs.declared.outcome.End.TheVariants.{Served, NotYet}
 use Rattle.resin_site.specs.declared.outcome.End.{End}
 use Rattle.resin_site.specs.declared.outcome.Outcome.{Outcome}

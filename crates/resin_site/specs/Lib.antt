@@ -3,3 +3,4 @@ pub mod Outcomes
 pub mod Laws
 pub mod Replies
 pub mod Serving
+pub mod Under

@@ -1,13 +1,13 @@
 -- The outcomes of requests, and the response of a refusal (this project).
 use Rattle.std.specs.Prelude.{ℕ, Bool, true, false, List, [], ◌++◌, codes, decimal, Result, Ok, Err, if◌then◌else◌}
-use Rattle.resin_http.specs.Response.{response}
-use Rattle.resin_scalar.specs.Faults.{fault_name}
-use Rattle.resin_stage.specs.Stages.{Stage}
-use Rattle.resin_machine.specs.declared.stop.Stop.{Stop}
-use Rattle.resin_machine.specs.declared.stop.Stop.TheVariants.{Thrown, Memory}
-use Rattle.resin_machine.specs.declared.stop.Stop.TheVariants as stop
-use Rattle.resin_machine.specs.State.{State}
-use Rattle.resin_machine.specs.Leaving.{class_name_of}
+use Rattle.resin_request.specs.Under.http.Response.{response}
+use Rattle.resin_request.specs.Under.scalar.Faults.{fault_name}
+use Rattle.resin_request.specs.Under.stage.Stages.{Stage}
+use Rattle.resin_request.specs.Under.machine.declared.stop.Stop.{Stop}
+use Rattle.resin_request.specs.Under.machine.declared.stop.Stop.TheVariants.{Thrown, Memory}
+use Rattle.resin_request.specs.Under.machine.declared.stop.Stop.TheVariants as stop
+use Rattle.resin_request.specs.Under.machine.State.{State}
+use Rattle.resin_request.specs.Under.machine.Leaving.{class_name_of}
 use Rattle.resin_request.specs.declared.request.Finish.{Finish}
 use Rattle.resin_request.specs.declared.request.Finish.TheVariants as finish
 use Rattle.resin_request.specs.Paths.{kind_of, plain_kind}

@@ -1,15 +1,15 @@
 -- What a request means (this project): how it ends, its answer, and what the keepers hold after it.
 use Rattle.std.specs.Prelude.{ℕ, Bool, false, true, List, [], ◌∷◌, ◌++◌, Option, Some, None}
-use Rattle.resin_bytes.specs.declared.header.Header.{Header}
-use Rattle.resin_http.specs.declared.request.Method.{Method}
-use Rattle.resin_http.specs.declared.request.Method.TheVariants.{Get, Head, Post}
-use Rattle.resin_http.specs.declared.request.Request.{Request}
-use Rattle.resin_http.specs.Stream.{Answer, asks, refuses}
-use Rattle.resin_http.specs.Inputs.{inputs_of}
-use Rattle.resin_journal.specs.Events.{EventList}
-use Rattle.resin_journal.specs.Lines.{log_of}
-use Rattle.resin_machine.specs.State.{new_state}
-use Rattle.resin_program.specs.Programs.{Whole, KeeperCall, Moment, moment, Out}
+use Rattle.resin_request.specs.Under.bytes.declared.header.Header.{Header}
+use Rattle.resin_request.specs.Under.http.declared.request.Method.{Method}
+use Rattle.resin_request.specs.Under.http.declared.request.Method.TheVariants.{Get, Head, Post}
+use Rattle.resin_request.specs.Under.http.declared.request.Request.{Request}
+use Rattle.resin_request.specs.Under.http.Stream.{Answer, asks, refuses}
+use Rattle.resin_request.specs.Under.http.Inputs.{inputs_of}
+use Rattle.resin_request.specs.Under.journal.Events.{EventList}
+use Rattle.resin_request.specs.Under.journal.Lines.{log_of}
+use Rattle.resin_request.specs.Under.machine.State.{new_state}
+use Rattle.resin_request.specs.Under.meaning.Programs.{Whole, KeeperCall, Moment, moment, Out}
 use Rattle.resin_request.specs.declared.request.Finish.{Finish}
 use Rattle.resin_request.specs.Paths.{path_of}
 use Rattle.resin_request.specs.Requests.{request_program}

@@ -1,9 +1,9 @@
 -- What serving a request leaves.
 use Rattle.std.specs.Prelude.{◌≡◌, ℕ, ◌+◌, List, [], ◌∷◌, ◌++◌, length, Option, Some, None, Result, Ok, Err, ⊤}
 use Rattle.std.specs.declared.alloc.AllocError.{AllocError}
-use Rattle.resin_http.specs.declared.request.Request.{Request}
-use Rattle.resin_program.specs.Programs.{KeeperCall, Moment}
-use Rattle.resin_program.specs.Runs.{Reached}
+use Rattle.resin_request.specs.Under.http.declared.request.Request.{Request}
+use Rattle.resin_request.specs.Under.meaning.Programs.{KeeperCall, Moment}
+use Rattle.resin_request.specs.Under.meaning.Runs.{Reached}
 use Rattle.resin_site.specs.declared.outcome.End.{End}
 use Rattle.resin_site.specs.declared.outcome.End.TheVariants.{Served as Done, NotFound, Uncaught, Fault, Keeper, NotYet}
 use Rattle.resin_site.specs.declared.outcome.Outcome.{Outcome}

@@ -4,6 +4,7 @@
 mod outcome;
 mod serving;
 mod site;
+pub mod under;
 
 pub use outcome::{End, Outcome, log_text, refusal};
 pub use serving::serve_one;

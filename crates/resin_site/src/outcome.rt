@@ -1,21 +1,21 @@
 //! What a request gives.
 ghost use Rattle.std.specs.Prelude.{◌≡◌, ◌≢◌, ◌++◌, [], Err, IfOk, OnOk, unwrap_or, codes, decimal};
-ghost use Rattle.resin_scalar.specs.Faults.{fault_name};
-ghost use Rattle.resin_journal.specs.Lines.{line_of, log_of};
-ghost use Rattle.resin_machine.specs.declared.stop.Stop.TheVariants as stop;
-ghost use Rattle.resin_stage.specs.Stages.{Stage as TheStage};
+ghost use Rattle.resin_request.specs.Under.scalar.Faults.{fault_name};
+ghost use Rattle.resin_request.specs.Under.journal.Lines.{line_of, log_of};
+ghost use Rattle.resin_request.specs.Under.machine.declared.stop.Stop.TheVariants as stop;
+ghost use Rattle.resin_request.specs.Under.stage.Stages.{Stage as TheStage};
 ghost use Rattle.resin_site.specs.declared.outcome.End.TheVariants as ends;
-ghost use Rattle.resin_machine.specs.Keeping.{Tied};
+ghost use Rattle.resin_request.specs.Under.machine.Keeping.{Tied};
 ghost use Rattle.resin_site.specs.Laws.{IsLawful};
 ghost use Rattle.resin_site.specs.Outcomes.{end_of, status_of, fixed_text, kind_at, is_unbuilt, outcome, with_parts, unbuilt, refused, refusal_text};
 
 use itoa::Buffer;
-use resin_base::Bytes;
-use resin_http::{HeaderList, response_text};
-use resin_journal::{Event, Journal, denial_line};
-use resin_machine::{Finished, Machine, Stop};
+use resin_request::under::base::Bytes;
+use resin_request::under::http::{HeaderList, response_text};
+use resin_request::under::journal::{Event, Journal, denial_line};
+use resin_request::under::machine::{Finished, Machine, Stop};
+use resin_request::under::scalar::ScriptFault;
 use resin_request::{Finish, PLAIN_KIND, kind_of};
-use resin_scalar::ScriptFault;
 use std::alloc::{AllocError, Global};
 
 /// How a request ended.

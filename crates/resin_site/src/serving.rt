@@ -1,7 +1,7 @@
 //! One request.
 ghost use Rattle.std.specs.Prelude.{◌≡◌, ◌≤◌, List, ℕ, IfOk};
-ghost use Rattle.resin_base.specs.Numbering.{AreNumbered};
-ghost use Rattle.resin_program.specs.Programs.{KeeperCall};
+ghost use Rattle.resin_request.specs.Under.base.Numbering.{AreNumbered};
+ghost use Rattle.resin_request.specs.Under.meaning.Programs.{KeeperCall};
 ghost use Rattle.resin_site.specs.Keeping.{Later, Passes, Tells, Blames, answers, faults, store_of};
 ghost use Rattle.resin_site.specs.Laws.{IsLawful};
 ghost use Rattle.resin_site.specs.Replies.{is_head};
@@ -9,9 +9,9 @@ ghost use Rattle.resin_site.specs.Serving.{Served, Ends};
 
 use crate::outcome::{Outcome, outcome_for};
 use crate::site::Site;
-use resin_base::{Calls, Files, Tables};
-use resin_http::{Method, Request, inputs};
-use resin_machine::Machine;
+use resin_request::under::base::{Calls, Files, Tables};
+use resin_request::under::http::{Method, Request, inputs};
+use resin_request::under::machine::Machine;
 use resin_request::{path_of, run_request};
 use std::alloc::{AllocError, Global};
 

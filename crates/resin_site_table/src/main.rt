@@ -9,9 +9,9 @@
 //! The input, and the output, which was worked out by hand from the formats of requests and responses, are the table of the tests of a site.
 #![tactic(auto)]
 
-use resin_base::{Calls, FailList};
-use resin_http::{Step, next_request};
 use resin_memory::{CalmTables, FakeFiles};
+use resin_site::under::base::{Calls, FailList};
+use resin_site::under::http::{Step, next_request};
 use resin_site::{End, Outcome, Site, log_text, refusal, serve_one};
 use std::alloc::{AllocError, Global};
 use std::io;

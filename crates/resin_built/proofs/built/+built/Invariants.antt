@@ -1,6 +1,6 @@
 use Rattle.std.proofs.Common.{◌≡◌, drop}
 use Rattle.std.specs.List.{list_all}
-use Rattle.resin_evaluation.specs.Built.{expr_is_built}
+use Rattle.resin_step_parts.specs.Under.meaning_forms.Built.{expr_is_built}
 use Rattle.resin_built.specs.BuiltParts.{array_item_is_built, step_is_built}
 use Rattle.resin_built.proofs.built.+built.Given as goal
 

@@ -1,6 +1,6 @@
 use Rattle.std.proofs.Common.{ap, ◌∙◌}
 use Rattle.std.specs.List.{list_all}
-use Rattle.resin_evaluation.specs.Built.{stmt_is_built}
+use Rattle.resin_step_parts.specs.Under.meaning_forms.Built.{stmt_is_built}
 use Rattle.resin_built.specs.BuiltParts.{catch_is_built}
 use Rattle.resin_built.proofs.BuiltLaws.{as_both, kind_try}
 use Rattle.resin_built.proofs.built.+built_stmts.Goals as goal

@@ -1,6 +1,6 @@
 use Rattle.std.proofs.Common.{◌≡◌, drop}
 use Rattle.std.specs.List.{list_all}
-use Rattle.resin_evaluation.specs.Built.{stmt_is_built}
+use Rattle.resin_step_parts.specs.Under.meaning_forms.Built.{stmt_is_built}
 use Rattle.resin_built.specs.BuiltParts.{branch_is_built, case_is_built, catch_is_built}
 use Rattle.resin_built.proofs.built.+built_stmts.Given as goal
 

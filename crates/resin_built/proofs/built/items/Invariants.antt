@@ -1,6 +1,6 @@
 use Rattle.std.proofs.Common.{◌≡◌, drop}
 use Rattle.std.specs.List.{list_all}
-use Rattle.resin_evaluation.specs.Built.{item_is_built}
+use Rattle.resin_step_parts.specs.Under.meaning_forms.Built.{item_is_built}
 use Rattle.resin_built.proofs.built.items.Given as goal
 
 abbrev pub invariant-loop-i : goal.invariant-loop-i

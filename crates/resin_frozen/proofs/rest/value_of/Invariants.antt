@@ -1,5 +1,5 @@
 use Rattle.std.proofs.Common.{◌≡◌, ◌^◌, ◌-◌, min, take}
-use Rattle.resin_bytes.specs.Numbers.{decimal_value}
+use Rattle.resin_value.specs.Under.bytes.Numbers.{decimal_value}
 use Rattle.resin_frozen.proofs.rest.value_of.Given as goal
 
 abbrev pub invariant-loop-digit : goal.invariant-loop-digit

@@ -1,4 +1,4 @@
-use Rattle.resin_program.proofs.Composition.{does_next, does_exit, does_loosely, does_give}
+use Rattle.resin_eval_calls.proofs.meaning_lemmas.Composition.{does_next, does_exit, does_loosely, does_give}
 use Rattle.resin_interp.proofs.run.turned_key.Goals as goal
 
 pub returns-in_err-key-in-Some-clause-turned : goal.returns-in_err-key-in-Some-clause-turned

@@ -1,4 +1,4 @@
-use Rattle.resin_program.proofs.Composition.{does_unbegun_exit}
+use Rattle.resin_eval_calls.proofs.meaning_lemmas.Composition.{does_unbegun_exit}
 use Rattle.resin_interp.proofs.top.leave_page.Goals as goal
 
 pub returns-in_err-context_of : goal.returns-in_err-context_of

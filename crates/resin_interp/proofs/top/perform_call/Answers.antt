@@ -1,4 +1,4 @@
-use Rattle.resin_program.proofs.Composition.{does_exit, does_lost_exit, does_next}
+use Rattle.resin_eval_calls.proofs.meaning_lemmas.Composition.{does_exit, does_lost_exit, does_next}
 use Rattle.resin_interp.proofs.top.perform_call.Goals as goal
 
 pub returns-in_err-callee : goal.returns-in_err-callee

@@ -1,8 +1,8 @@
-use Rattle.resin_evaluation.specs.Invoke.{block}
-use Rattle.resin_evaluation.specs.Programs.{evals, most_open}
+use Rattle.resin_eval_calls.specs.Under.meaning_forms.Invoke.{block}
+use Rattle.resin_eval_calls.specs.Under.meaning_forms.Programs.{evals, most_open}
 use Rattle.resin_interp.proofs.Counts.{no_statement}
-use Rattle.resin_invoke.proofs.Exits.{does_is}
-use Rattle.resin_program.proofs.Composition.{does_exit, does_give, does_next, front, leads_here, nothing_left}
+use Rattle.resin_eval_calls.proofs.eval_nested_lemmas.Exits.{does_is}
+use Rattle.resin_eval_calls.proofs.meaning_lemmas.Composition.{does_exit, does_give, does_next, front, leads_here, nothing_left}
 use Rattle.std.proofs.Common.{ap, drop, ◌+◌}
 use Rattle.resin_interp.proofs.top.run_items.Goals as goal
 use Rattle.resin_interp.proofs.top.run_items.Goals.{in-Statement+in_ok-stmt+in-Next, in_default}

@@ -1,9 +1,9 @@
-use Rattle.resin_evaluation.specs.Invoke.{block}
-use Rattle.resin_evaluation.specs.Programs.{evals, most_open, statement_in}
-use Rattle.resin_program.specs.Runs.{Leads}
+use Rattle.resin_eval_calls.specs.Under.meaning_forms.Invoke.{block}
+use Rattle.resin_eval_calls.specs.Under.meaning_forms.Programs.{evals, most_open, statement_in}
+use Rattle.resin_eval_calls.specs.Under.meaning.Runs.{Leads}
 use Rattle.std.proofs.Common.{drop}
 use Rattle.std.specs.List.{filter_map}
-use Rattle.resin_invoke.specs.Running.{at}
+use Rattle.resin_eval_calls.specs.Under.eval_nested.Running.{at}
 use Rattle.resin_interp.proofs.top.run_items.Given as goal
 
 abbrev pub invariant-loop-item : goal.invariant-loop-item

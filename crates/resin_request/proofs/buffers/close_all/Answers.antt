@@ -1,7 +1,7 @@
 use Rattle.std.proofs.Common.{ap, sym, arith, ◌+◌, ◌-◌}
-use Rattle.resin_machine.specs.Leaving.{close_buffer}
-use Rattle.resin_program.specs.Programs.{act}
-use Rattle.resin_program.proofs.Composition.{does_loosely, does_give, does_exit, does_lost_exit, leads_here, leads_next, leads_by}
+use Rattle.resin_interp.specs.Under.machine.Leaving.{close_buffer}
+use Rattle.resin_interp.specs.Under.meaning.Programs.{act}
+use Rattle.resin_interp.proofs.meaning_lemmas.Composition.{does_loosely, does_give, does_exit, does_lost_exit, leads_here, leads_next, leads_by}
 use Rattle.resin_request.specs.Buffers.{close_more, with_closed}
 use Rattle.resin_request.proofs.Buffered.{close_first, close_next, close_last}
 use Rattle.resin_request.proofs.buffers.close_all.Goals as goal

@@ -1,9 +1,9 @@
 -- what is left to close comes to what closing all comes to
 use Rattle.std.proofs.Common.{[], ◌-◌}
-use Rattle.resin_base.specs.FileStore.{FileStore}
-use Rattle.resin_base.specs.TableStore.{TableStore}
-use Rattle.resin_base.specs.declared.calls.Calls.{Calls}
-use Rattle.resin_program.specs.Runs.{Seen, world, Leads}
+use Rattle.resin_interp.specs.Under.base.FileStore.{FileStore}
+use Rattle.resin_interp.specs.Under.base.TableStore.{TableStore}
+use Rattle.resin_interp.specs.Under.base.declared.calls.Calls.{Calls}
+use Rattle.resin_interp.specs.Under.meaning.Runs.{Seen, world, Leads}
 use Rattle.resin_request.specs.Buffers.{close_more}
 use Rattle.resin_request.proofs.buffers.close_all.Given as goal
 

@@ -1,7 +1,7 @@
 use Rattle.std.proofs.Common.{ap, ◌∙◌, length, ◌==◌}
-use Rattle.resin_stage.specs.Stages.{Stage}
-use Rattle.resin_program.proofs.Composition.{does_next, does_exit, does_give}
-use Rattle.resin_invoke.proofs.Arms.{does_looked, does_yes, does_no}
+use Rattle.resin_interp.specs.Under.stage.Stages.{Stage}
+use Rattle.resin_interp.proofs.meaning_lemmas.Composition.{does_next, does_exit, does_give}
+use Rattle.resin_interp.proofs.eval_nested_lemmas.Arms.{does_looked, does_yes, does_no}
 use Rattle.resin_request.proofs.Buffered.{some_open}
 use Rattle.resin_request.proofs.buffers.end_buffers.Goals as goal
 

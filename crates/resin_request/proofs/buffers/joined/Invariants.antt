@@ -1,6 +1,6 @@
 -- the texts so far are the last ones, joined
 use Rattle.std.proofs.Common.{◌≡◌, ◌-◌, ◌≤◌, length, drop}
-use Rattle.resin_lstr.specs.Texts.{LONGEST}
+use Rattle.resin_inputs.specs.Under.lstr.Texts.{LONGEST}
 use Rattle.resin_request.specs.Buffers.{joined_outwards}
 use Rattle.resin_request.proofs.buffers.joined.Given as goal
 

@@ -1,5 +1,5 @@
-use Rattle.resin_program.proofs.Composition.{does_next, does_exit}
-use Rattle.resin_invoke.proofs.Arms.{does_settled}
+use Rattle.resin_interp.proofs.meaning_lemmas.Composition.{does_next, does_exit}
+use Rattle.resin_interp.proofs.eval_nested_lemmas.Arms.{does_settled}
 use Rattle.resin_request.proofs.buffers.leave_joined.Goals as goal
 
 pub returns-in_err-text : goal.returns-in_err-text

@@ -1,7 +1,7 @@
 use Rattle.std.proofs.Common.{sym, ◌∙◌}
 use Rattle.resin_request.specs.declared.request.Finish.TheVariants.{Missing}
-use Rattle.resin_program.proofs.Composition.{does_next, does_exit, does_give}
-use Rattle.resin_invoke.proofs.Arms.{does_yes, does_no}
+use Rattle.resin_interp.proofs.meaning_lemmas.Composition.{does_next, does_exit, does_give}
+use Rattle.resin_interp.proofs.eval_nested_lemmas.Arms.{does_yes, does_no}
 use Rattle.resin_request.proofs.request.perform_request.Goals as goal
 
 pub returns-then-not-is_open : goal.returns-then-not-is_open

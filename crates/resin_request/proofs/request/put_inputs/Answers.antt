@@ -1,5 +1,5 @@
 use Rattle.std.proofs.Common.{true}
-use Rattle.resin_program.proofs.Composition.{does_next, does_exit, does_act, does_give}
+use Rattle.resin_interp.proofs.meaning_lemmas.Composition.{does_next, does_exit, does_act, does_give}
 use Rattle.resin_request.proofs.request.put_inputs.Goals as goal
 
 pub returns-in_err-assign : goal.returns-in_err-assign

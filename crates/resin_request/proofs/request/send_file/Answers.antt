@@ -1,6 +1,6 @@
 use Rattle.std.proofs.Common.{false, true}
-use Rattle.resin_program.proofs.Composition.{does_next, does_exit, does_unbegun_exit, does_give}
-use Rattle.resin_invoke.proofs.Arms.{does_looked, does_yes, does_no}
+use Rattle.resin_interp.proofs.meaning_lemmas.Composition.{does_next, does_exit, does_unbegun_exit, does_give}
+use Rattle.resin_interp.proofs.eval_nested_lemmas.Arms.{does_looked, does_yes, does_no}
 use Rattle.resin_request.proofs.request.send_file.Goals as goal
 
 pub returns-then-has_filters : goal.returns-then-has_filters

@@ -1,6 +1,6 @@
 use Rattle.resin_request.specs.declared.request.Finish.TheVariants.{Answered, NotYet}
-use Rattle.resin_program.proofs.Composition.{does_next, does_exit, does_give}
-use Rattle.resin_invoke.proofs.Arms.{does_yes, does_no}
+use Rattle.resin_interp.proofs.meaning_lemmas.Composition.{does_next, does_exit, does_give}
+use Rattle.resin_interp.proofs.eval_nested_lemmas.Arms.{does_yes, does_no}
 use Rattle.resin_request.proofs.request.serve_entry.Goals as goal
 
 pub returns-in_err-boot : goal.returns-in_err-boot

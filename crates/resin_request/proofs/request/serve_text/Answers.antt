@@ -1,5 +1,5 @@
 use Rattle.std.proofs.Common.{sym, ◌∙◌}
-use Rattle.resin_invoke.proofs.Arms.{does_yes, does_no}
+use Rattle.resin_interp.proofs.eval_nested_lemmas.Arms.{does_yes, does_no}
 use Rattle.resin_request.proofs.request.serve_text.Goals as goal
 
 pub returns-then-is_script : goal.returns-then-is_script

@@ -1,4 +1,4 @@
-use Rattle.resin_program.proofs.Composition.{does_give}
+use Rattle.resin_interp.proofs.meaning_lemmas.Composition.{does_give}
 use Rattle.resin_request.proofs.Places.{read_none, read_syntax, read_deep}
 use Rattle.resin_request.proofs.source.read_source.Goals as goal
 

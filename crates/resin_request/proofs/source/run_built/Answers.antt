@@ -1,6 +1,6 @@
 use Rattle.std.proofs.Common.{sym, ◌∙◌, true, false}
-use Rattle.resin_program.proofs.Composition.{does_next, does_exit, does_give}
-use Rattle.resin_invoke.proofs.Arms.{does_yes, does_no}
+use Rattle.resin_interp.proofs.meaning_lemmas.Composition.{does_next, does_exit, does_give}
+use Rattle.resin_interp.proofs.eval_nested_lemmas.Arms.{does_yes, does_no}
 use Rattle.resin_request.proofs.source.run_built.Goals as goal
 
 pub returns-then-not-is_built : goal.returns-then-not-is_built

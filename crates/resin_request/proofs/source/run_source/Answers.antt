@@ -1,4 +1,4 @@
-use Rattle.resin_program.proofs.Composition.{does_next, does_exit}
+use Rattle.resin_interp.proofs.meaning_lemmas.Composition.{does_next, does_exit}
 use Rattle.resin_request.proofs.source.run_source.Goals as goal
 
 pub returns-in_err-p : goal.returns-in_err-p

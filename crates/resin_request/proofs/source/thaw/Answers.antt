@@ -1,6 +1,6 @@
 use Rattle.std.proofs.Common.{sym, ◌∙◌, true, false}
-use Rattle.resin_program.proofs.Composition.{does_give}
-use Rattle.resin_invoke.proofs.Arms.{does_yes, does_no, does_faulted}
+use Rattle.resin_interp.proofs.meaning_lemmas.Composition.{does_give}
+use Rattle.resin_interp.proofs.eval_nested_lemmas.Arms.{does_yes, does_no, does_faulted}
 use Rattle.resin_request.proofs.Places.{short_text}
 use Rattle.resin_request.proofs.source.thaw.Goals as goal
 

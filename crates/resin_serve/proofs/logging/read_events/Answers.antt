@@ -1,7 +1,7 @@
 use Rattle.std.proofs.Common.{◌<◌, ◌+◌, take, length, get_or, sym, subst, arith}
 use Rattle.std.proofs.lemmas.List.{take_more, take_all}
-use Rattle.resin_journal.specs.Access.{TellsNames}
-use Rattle.resin_journal_file.specs.Limits.{Each, CanBeTold}
+use Rattle.resin_site.specs.Under.journal.Access.{TellsNames}
+use Rattle.resin_audit.specs.Under.journal_file.Limits.{Each, CanBeTold}
 use Rattle.resin_serve.proofs.Telling.{each_more, names_at}
 use Rattle.resin_serve.proofs.logging.read_events.Goals as goal
 

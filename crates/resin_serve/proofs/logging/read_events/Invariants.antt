@@ -1,7 +1,7 @@
 -- The events so far can be told.
 use Rattle.std.proofs.Common.{take}
-use Rattle.resin_journal.specs.Access.{ClassesAreNames}
-use Rattle.resin_journal_file.specs.Limits.{Each, CanBeTold}
+use Rattle.resin_site.specs.Under.journal.Access.{ClassesAreNames}
+use Rattle.resin_audit.specs.Under.journal_file.Limits.{Each, CanBeTold}
 use Rattle.resin_serve.proofs.logging.read_events.Given as goal
 
 abbrev pub invariant-loop-event : goal.invariant-loop-event

@@ -1,6 +1,6 @@
 use Rattle.std.proofs.Common.{subst, arith, ◌∙◌}
 use Rattle.std.proofs.lemmas.List.{take_all}
-use Rattle.resin_journal_file.specs.Limits.{Each, IsObject}
+use Rattle.resin_audit.specs.Under.journal_file.Limits.{Each, IsObject}
 use Rattle.resin_serve.proofs.logging.read_set.Goals as goal
 
 pub returns : goal.returns

@@ -1,8 +1,8 @@
 use Rattle.std.proofs.Common.{◌<◌, ◌+◌, take, length, get_or, subst, arith}
 use Rattle.std.proofs.lemmas.List.{take_more, take_all}
-use Rattle.resin_label.specs.Sets.{numbers}
-use Rattle.resin_lstr.specs.declared.text.Run.{Run}
-use Rattle.resin_journal_file.specs.Limits.{Each, IsObject}
+use Rattle.resin_site.specs.Under.label.Sets.{numbers}
+use Rattle.resin_site.specs.Under.lstr.declared.text.Run.{Run}
+use Rattle.resin_audit.specs.Under.journal_file.Limits.{Each, IsObject}
 use Rattle.resin_serve.proofs.Telling.{each_more, each_spelled}
 use Rattle.resin_serve.proofs.logging.read_text.Goals as goal
 

@@ -1,8 +1,8 @@
 -- The sets of the runs so far have numbers of 32 bits.
 use Rattle.std.proofs.Common.{take}
-use Rattle.resin_label.specs.Sets.{numbers}
-use Rattle.resin_lstr.specs.declared.text.Run.{Run}
-use Rattle.resin_journal_file.specs.Limits.{Each, IsObject}
+use Rattle.resin_site.specs.Under.label.Sets.{numbers}
+use Rattle.resin_site.specs.Under.lstr.declared.text.Run.{Run}
+use Rattle.resin_audit.specs.Under.journal_file.Limits.{Each, IsObject}
 use Rattle.resin_serve.proofs.logging.read_text.Given as goal
 
 abbrev pub invariant-loop-run : goal.invariant-loop-run

@@ -1,5 +1,5 @@
 use Rattle.std.proofs.Common.{refl, sym, ap, subst, ◌∙◌, ◌≡◌}
-use Rattle.resin_base.specs.declared.calls.Calls.{Calls}
+use Rattle.resin_site.specs.Under.base.declared.calls.Calls.{Calls}
 use Rattle.resin_site.specs.Keeping.{Later}
 use Rattle.resin_trace.specs.Lines.{at, stream_of}
 use Rattle.resin_serve.specs.declared.run.Service.{Service}

@@ -1,7 +1,7 @@
 -- The answers so far were served, and the connection goes on from there.
 use Rattle.std.proofs.Common.{◌≡◌, ◌≢◌, ℕ, length}
 use Rattle.std.specs.Prelude.{IsSome}
-use Rattle.resin_base.specs.Numbering.{AreNumbered}
+use Rattle.resin_site.specs.Under.base.Numbering.{AreNumbered}
 use Rattle.resin_trace.specs.Lines.{at, stream_of}
 use Rattle.resin_site.specs.Keeping.{answers, store_of}
 use Rattle.resin_serve.specs.declared.give.Given.TheVariants.{Whole}

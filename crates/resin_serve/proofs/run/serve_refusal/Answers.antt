@@ -1,5 +1,5 @@
 use Rattle.std.proofs.Common.{[], refl, sym, ap, subst, ◌∙◌}
-use Rattle.resin_base.specs.declared.calls.Calls.{Calls}
+use Rattle.resin_site.specs.Under.base.declared.calls.Calls.{Calls}
 use Rattle.resin_serve.specs.Logs.{logged, CanTell}
 use Rattle.resin_serve.proofs.Runs.{ran_stop, ran_refused}
 use Rattle.resin_serve.proofs.Telling.{told_none}

@@ -1,9 +1,9 @@
 use Rattle.std.proofs.Common.{refl, sym, ap, subst, ◌∙◌}
-use Rattle.resin_base.specs.declared.calls.Calls.{Calls}
+use Rattle.resin_site.specs.Under.base.declared.calls.Calls.{Calls}
 use Rattle.resin_site.specs.Keeping.{Later, answers, store_of}
 use Rattle.resin_serve.specs.Ran.{world}
 use Rattle.resin_serve.specs.Kept.{Kept, keepers}
-use Rattle.resin_base.specs.Numbering.{AreNumbered}
+use Rattle.resin_site.specs.Under.base.Numbering.{AreNumbered}
 use Rattle.resin_serve.proofs.Runs.{ran_amid, ran_met, ran_gave}
 use Rattle.resin_serve.proofs.Request_kept.{request_kept}
 use Rattle.resin_serve.proofs.run.serve_request.Goals as goal

@@ -1,6 +1,6 @@
 -- The records of what was taken so far were read, and their answers were served.
 use Rattle.std.proofs.Common.{◌≡◌, length}
-use Rattle.resin_base.specs.Numbering.{AreNumbered}
+use Rattle.resin_site.specs.Under.base.Numbering.{AreNumbered}
 use Rattle.resin_site.specs.Keeping.{answers, store_of}
 use Rattle.resin_serve.specs.declared.give.Given.TheVariants.{Whole}
 use Rattle.resin_serve.specs.Ran.{world}

@@ -1,6 +1,6 @@
 use Rattle.std.proofs.Common.{arith, ap, sym, ◌∙◌, refl}
-use Rattle.resin_journal.specs.Lines.{log_of}
-use Rattle.resin_program.proofs.Composition.{front}
+use Rattle.resin_request.specs.Under.journal.Lines.{log_of}
+use Rattle.resin_request.proofs.meaning_lemmas.Composition.{front}
 use Rattle.resin_site.proofs.Made.{logged, logged_all}
 use Rattle.resin_site.proofs.outcome.log_text.Goals as goal
 

@@ -1,6 +1,6 @@
 -- what is left of the journal has the rest of the log
 use Rattle.std.proofs.Common.{◌≡◌, ◌++◌, drop}
-use Rattle.resin_journal.specs.Lines.{log_of}
+use Rattle.resin_request.specs.Under.journal.Lines.{log_of}
 use Rattle.resin_site.proofs.outcome.log_text.Given as goal
 
 abbrev pub invariant-loop-event : goal.invariant-loop-event

@@ -1,9 +1,9 @@
 use Rattle.std.proofs.Common.{refl, sym, ap, ◌∙◌, arith, subst, [], Ok, Err}
 use Rattle.std.specs.Prelude.{IfOk, ◌≡◌}
 use Rattle.std.proofs.lemmas.Result.{err_from_is_err_and}
-use Rattle.resin_program.proofs.Composition.{numbered_after}
-use Rattle.resin_machine.specs.State.{new_state}
-use Rattle.resin_program.specs.Runs.{done, seen, world}
+use Rattle.resin_request.proofs.meaning_lemmas.Composition.{numbered_after}
+use Rattle.resin_request.specs.Under.machine.State.{new_state}
+use Rattle.resin_request.specs.Under.meaning.Runs.{done, seen, world}
 use Rattle.resin_request.specs.Paths.{path_of}
 use Rattle.resin_site.specs.Outcomes.{outcome}
 use Rattle.resin_site.specs.Replies.{is_head}

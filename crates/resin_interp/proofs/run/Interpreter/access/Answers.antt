@@ -1,10 +1,10 @@
 use Rattle.std.proofs.Common.{sym, ap}
-use Rattle.resin_program.proofs.Composition.{does_next, does_exit, does_loosely}
-use Rattle.resin_invoke.proofs.Arms.{does_looked}
+use Rattle.resin_eval_calls.proofs.meaning_lemmas.Composition.{does_next, does_exit, does_loosely}
+use Rattle.resin_eval_calls.proofs.eval_nested_lemmas.Arms.{does_looked}
 use Rattle.resin_interp.proofs.Arms.{does_unlooked}
-use Rattle.resin_invoke.proofs.Exits.{does_is}
+use Rattle.resin_eval_calls.proofs.eval_nested_lemmas.Exits.{does_is}
 use Rattle.resin_interp.proofs.Shapes.{index_means, property_means}
-use Rattle.resin_evaluation.specs.Programs.{evals}
+use Rattle.resin_eval_calls.specs.Under.meaning_forms.Programs.{evals}
 use Rattle.resin_interp.proofs.run.Interpreter.access.Goals as goal
 
 pub returns-in_err-v-in-Index : goal.returns-in_err-v-in-Index

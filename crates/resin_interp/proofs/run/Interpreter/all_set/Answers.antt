@@ -1,9 +1,9 @@
 use Rattle.std.proofs.Common.{sym, ap, ◌∙◌}
-use Rattle.resin_program.proofs.Composition.{does_next, does_exit, does_give, front, nothing_left}
-use Rattle.resin_invoke.proofs.Arms.{does_yes, does_no}
-use Rattle.resin_invoke.proofs.Exits.{does_is}
-use Rattle.resin_evaluation.specs.Programs.{evals}
-use Rattle.resin_evaluation.specs.Expressions.{all_set}
+use Rattle.resin_eval_calls.proofs.meaning_lemmas.Composition.{does_next, does_exit, does_give, front, nothing_left}
+use Rattle.resin_eval_calls.proofs.eval_nested_lemmas.Arms.{does_yes, does_no}
+use Rattle.resin_eval_calls.proofs.eval_nested_lemmas.Exits.{does_is}
+use Rattle.resin_eval_calls.specs.Under.meaning_forms.Programs.{evals}
+use Rattle.resin_eval_calls.specs.Under.meaning_forms.Expressions.{all_set}
 use Rattle.resin_interp.proofs.run.Interpreter.all_set.Goals as goal
 
 pub returns-in_err-v : goal.returns-in_err-v

@@ -1,8 +1,8 @@
 use Rattle.std.proofs.Common.{drop}
-use Rattle.resin_program.specs.Runs.{Leads}
-use Rattle.resin_evaluation.specs.Programs.{evals}
-use Rattle.resin_evaluation.specs.Expressions.{all_set}
-use Rattle.resin_invoke.specs.Running.{at}
+use Rattle.resin_eval_calls.specs.Under.meaning.Runs.{Leads}
+use Rattle.resin_eval_calls.specs.Under.meaning_forms.Programs.{evals}
+use Rattle.resin_eval_calls.specs.Under.meaning_forms.Expressions.{all_set}
+use Rattle.resin_eval_calls.specs.Under.eval_nested.Running.{at}
 use Rattle.resin_interp.proofs.run.Interpreter.all_set.Given as goal
 
 abbrev pub invariant-loop-e : goal.invariant-loop-e

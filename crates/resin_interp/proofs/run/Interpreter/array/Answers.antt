@@ -1,4 +1,4 @@
-use Rattle.resin_program.proofs.Composition.{does_next, does_exit, does_give}
+use Rattle.resin_eval_calls.proofs.meaning_lemmas.Composition.{does_next, does_exit, does_give}
 use Rattle.resin_interp.proofs.run.Interpreter.array.Goals as goal
 
 pub returns-in_err-a : goal.returns-in_err-a

@@ -1,10 +1,10 @@
 use Rattle.std.proofs.Common.{sym, ap}
-use Rattle.resin_program.proofs.Composition.{does_act}
-use Rattle.resin_invoke.proofs.Arms.{does_given, does_none}
-use Rattle.resin_invoke.proofs.Exits.{does_is}
+use Rattle.resin_eval_calls.proofs.meaning_lemmas.Composition.{does_act}
+use Rattle.resin_eval_calls.proofs.eval_nested_lemmas.Arms.{does_given, does_none}
+use Rattle.resin_eval_calls.proofs.eval_nested_lemmas.Exits.{does_is}
 use Rattle.resin_interp.proofs.Shapes.{literal_means, variable_means, array_means, join_means, access_means, operation_means, test_means, assignment_means, call_means}
-use Rattle.resin_evaluation.specs.Programs.{evals}
-use Rattle.resin_evaluation.specs.Expressions.{array_form, interpolated}
+use Rattle.resin_eval_calls.specs.Under.meaning_forms.Programs.{evals}
+use Rattle.resin_eval_calls.specs.Under.meaning_forms.Expressions.{array_form, interpolated}
 use Rattle.resin_interp.proofs.run.Interpreter.expression.Goals as goal
 
 pub returns-in_err-literal_value-in-Literal : goal.returns-in_err-literal_value-in-Literal

@@ -1,8 +1,8 @@
 use Rattle.std.proofs.Common.{sym, ap}
-use Rattle.resin_program.proofs.Composition.{does_next, does_exit, does_give}
-use Rattle.resin_invoke.proofs.Exits.{does_is}
-use Rattle.resin_evaluation.specs.Programs.{evals}
-use Rattle.resin_evaluation.specs.Expressions.{item_key}
+use Rattle.resin_eval_calls.proofs.meaning_lemmas.Composition.{does_next, does_exit, does_give}
+use Rattle.resin_eval_calls.proofs.eval_nested_lemmas.Exits.{does_is}
+use Rattle.resin_eval_calls.specs.Under.meaning_forms.Programs.{evals}
+use Rattle.resin_eval_calls.specs.Under.meaning_forms.Expressions.{item_key}
 use Rattle.resin_interp.proofs.run.Interpreter.item_key.Goals as goal
 
 pub returns-in_err-k-in-Some : goal.returns-in_err-k-in-Some

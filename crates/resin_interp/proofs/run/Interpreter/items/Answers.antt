@@ -1,11 +1,11 @@
 use Rattle.std.proofs.Common.{sym, ap}
-use Rattle.resin_program.proofs.Composition.{does_next, does_exit, does_give, leads_here, front, nothing_left}
-use Rattle.resin_invoke.proofs.Arms.{does_settled}
+use Rattle.resin_eval_calls.proofs.meaning_lemmas.Composition.{does_next, does_exit, does_give, leads_here, front, nothing_left}
+use Rattle.resin_eval_calls.proofs.eval_nested_lemmas.Arms.{does_settled}
 use Rattle.resin_interp.proofs.Cases.{unbegun_items}
-use Rattle.resin_invoke.proofs.Exits.{does_is}
-use Rattle.resin_evaluation.specs.Programs.{evals}
-use Rattle.resin_value.specs.Changes.{empty}
-use Rattle.resin_evaluation.specs.Expressions.{items}
+use Rattle.resin_eval_calls.proofs.eval_nested_lemmas.Exits.{does_is}
+use Rattle.resin_eval_calls.specs.Under.meaning_forms.Programs.{evals}
+use Rattle.resin_eval_calls.specs.Under.value.Changes.{empty}
+use Rattle.resin_eval_calls.specs.Under.meaning_forms.Expressions.{items}
 use Rattle.resin_interp.proofs.run.Interpreter.items.Goals as goal
 
 pub returns-in_err-a : goal.returns-in_err-a

@@ -1,9 +1,9 @@
 use Rattle.std.proofs.Common.{drop}
-use Rattle.resin_program.specs.Runs.{Leads}
-use Rattle.resin_value.specs.Changes.{empty}
-use Rattle.resin_evaluation.specs.Programs.{evals}
-use Rattle.resin_evaluation.specs.Expressions.{items}
-use Rattle.resin_invoke.specs.Running.{at}
+use Rattle.resin_eval_calls.specs.Under.meaning.Runs.{Leads}
+use Rattle.resin_eval_calls.specs.Under.value.Changes.{empty}
+use Rattle.resin_eval_calls.specs.Under.meaning_forms.Programs.{evals}
+use Rattle.resin_eval_calls.specs.Under.meaning_forms.Expressions.{items}
+use Rattle.resin_eval_calls.specs.Under.eval_nested.Running.{at}
 use Rattle.resin_interp.proofs.run.Interpreter.items.Given as goal
 
 abbrev pub invariant-loop-i : goal.invariant-loop-i

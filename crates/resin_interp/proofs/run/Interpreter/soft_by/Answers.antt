@@ -1,5 +1,5 @@
-use Rattle.resin_program.proofs.Composition.{does_next, does_exit, does_act}
-use Rattle.resin_invoke.proofs.Exits.{does_is}
+use Rattle.resin_eval_calls.proofs.meaning_lemmas.Composition.{does_next, does_exit, does_act}
+use Rattle.resin_eval_calls.proofs.eval_nested_lemmas.Exits.{does_is}
 use Rattle.resin_interp.proofs.Rooms.{does_hard, ticked_soft}
 use Rattle.resin_interp.proofs.Shapes.{soft_access_means}
 use Rattle.resin_interp.proofs.run.Interpreter.soft_by.Goals as goal

@@ -1,4 +1,4 @@
-use Rattle.resin_program.proofs.Enclosures.{does_on_line}
+use Rattle.resin_eval_calls.proofs.meaning_lemmas.Enclosures.{does_on_line}
 use Rattle.resin_interp.proofs.Rooms.{lined_spent, lined_stmt}
 use Rattle.resin_interp.proofs.run.Interpreter.stmt_by.Goals as goal
 

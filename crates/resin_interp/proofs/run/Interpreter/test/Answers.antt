@@ -1,12 +1,12 @@
 use Rattle.std.proofs.Common.{sym, ap, ◌∙◌}
 use Rattle.std.specs.Prelude.{not}
-use Rattle.resin_program.proofs.Composition.{does_next, does_exit, does_give}
-use Rattle.resin_invoke.proofs.Arms.{does_given, does_yes, does_no}
-use Rattle.resin_invoke.proofs.Exits.{does_is}
+use Rattle.resin_eval_calls.proofs.meaning_lemmas.Composition.{does_next, does_exit, does_give}
+use Rattle.resin_eval_calls.proofs.eval_nested_lemmas.Arms.{does_given, does_yes, does_no}
+use Rattle.resin_eval_calls.proofs.eval_nested_lemmas.Exits.{does_is}
 use Rattle.resin_interp.proofs.Shapes.{and_means, or_means, coalesce_means, choice_means, either_means, isset_means, empty_means}
-use Rattle.resin_evaluation.specs.Programs.{evals}
-use Rattle.resin_value.specs.declared.value.Value.TheVariants.{Bool as Boolean}
-use Rattle.resin_evaluation.specs.Expressions.{all_set}
+use Rattle.resin_eval_calls.specs.Under.meaning_forms.Programs.{evals}
+use Rattle.resin_eval_calls.specs.Under.value.declared.value.Value.TheVariants.{Bool as Boolean}
+use Rattle.resin_eval_calls.specs.Under.meaning_forms.Expressions.{all_set}
 use Rattle.resin_interp.proofs.run.Interpreter.test.Goals as goal
 
 pub returns-in_err-x-in-And : goal.returns-in_err-x-in-And

@@ -1,5 +1,5 @@
-use Rattle.resin_program.proofs.Composition.{does_next, does_exit, does_act}
-use Rattle.resin_program.specs.Runs.{done}
+use Rattle.resin_eval_calls.proofs.meaning_lemmas.Composition.{does_next, does_exit, does_act}
+use Rattle.resin_eval_calls.specs.Under.meaning.Runs.{done}
 use Rattle.resin_interp.proofs.Arms.{spent_after}
 use Rattle.resin_interp.proofs.run.Interpreter.ticked.Goals as goal
 

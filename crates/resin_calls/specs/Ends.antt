@@ -1,9 +1,0 @@
--- How the end of a filter of a function is seen.
-use Rattle.std.specs.Prelude.{ℕ, List, Result, Ok, Err}
-use Rattle.resin_value.specs.declared.value.Value.{Value}
-use Rattle.resin_value.specs.Trees.{Tree}
-use Rattle.resin_value.specs.Seen.{trees_of}
-
-abbrev pub seen_end : Result (List Value) ℕ → Result (List Tree) ℕ
-seen_end (Ok vs) = Ok (trees_of vs)
-seen_end (Err thrown) = Err thrown

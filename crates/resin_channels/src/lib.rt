@@ -1,4 +1,0 @@
-//! Calls of the functions of channels: headers, the status, mail and buffers.
-#![tactic(auto)]
-
-pub mod channels;

@@ -1,0 +1,5 @@
+//! Calls: what a call reaches is found first, then its arguments are evaluated, then filters of the function are asked.
+#![tactic(auto)]
+
+pub mod calls;
+pub mod under;

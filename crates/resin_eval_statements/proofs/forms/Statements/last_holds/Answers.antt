@@ -1,0 +1,18 @@
+use Rattle.std.proofs.Common.{ap}
+use Rattle.resin_eval_writes.proofs.meaning_lemmas.Composition.{does_next, does_exit, does_give, front, nothing_left}
+use Rattle.resin_eval_writes.proofs.eval_nested_lemmas.Exits.{does_is}
+use Rattle.resin_eval_writes.specs.Under.meaning_forms.Programs.{evals}
+use Rattle.resin_eval_writes.specs.Under.meaning_forms.Statements.{last_holds}
+use Rattle.resin_eval_statements.proofs.forms.Statements.last_holds.Goals as goal
+
+pub returns-in_err-v : goal.returns-in_err-v
+returns-in_err-v g c =
+    c.loop-e.invariant.goes_on _ _ (does_is (ap (last_holds (evals c.args.self.now.by.now.room) c.loop-e.so_far) (front c.args.es.now c.loop-e.e-index c.e-item.result c.loop-e-test.true c.e-item.is)) (does_exit _ _ _ c.from_residual.ensures.1 (c.in_err-v.ensures.does)))
+
+pub loop-e-preserved : goal.loop-e-preserved
+loop-e-preserved g c =
+    record { goes_on = λ r w e. c.loop-e.invariant.goes_on r w (does_is (ap (last_holds (evals c.args.self.now.by.now.room) c.loop-e.so_far) (front c.args.es.now c.loop-e.e-index c.e-item.result c.loop-e-test.true c.e-item.is)) (does_next _ _ (c.in_ok-v.ensures.does) (rw c.truth-so_far.ensures at e))) }
+
+pub returns : goal.returns
+returns g c =
+    c.loop-e.invariant.goes_on _ _ (does_is (ap (last_holds (evals c.args.self.now.by.now.room) c.loop-e.so_far) (nothing_left c.args.es.now c.loop-e.e-index c.loop-e-test.false)) (does_give _ _))

@@ -1,0 +1,5 @@
+//! Statements.
+#![tactic(auto)]
+
+pub mod forms;
+pub mod under;

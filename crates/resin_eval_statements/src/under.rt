@@ -1,0 +1,3 @@
+//! What this crate stands on, passed on to the crates above, which list this one alone.
+
+pub use resin_eval_assign as eval_assign;

@@ -1,6 +1,0 @@
-use Rattle.resin_program.proofs.Composition.{does_loosely}
-use Rattle.resin_functions.proofs.functions.miscounted.Goals as goal
-
-pub returns : goal.returns
-returns g c =
-    λ f t k. does_loosely _ f t k c.throw.ensures.acts

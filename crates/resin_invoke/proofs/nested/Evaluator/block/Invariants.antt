@@ -1,9 +1,0 @@
-use Rattle.resin_evaluation.specs.Invoke.{block}
-use Rattle.resin_evaluation.specs.Programs.{evals}
-use Rattle.resin_program.specs.Runs.{Leads}
-use Rattle.std.proofs.Common.{drop}
-use Rattle.resin_invoke.specs.Running.{at}
-use Rattle.resin_invoke.proofs.nested.Evaluator.block.Given as goal
-
-abbrev pub invariant-loop-s : goal.invariant-loop-s
-invariant-loop-s g l = Leads (block (evals l.self.room) l.ss) (at g.F.Files g.T.Tables l.fn.run) (block (evals l.self.room) (drop l.s-index l.ss)) (at g.F.Files g.T.Tables l.run)

@@ -1,9 +1,0 @@
-use Rattle.std.proofs.Common.{drop}
-use Rattle.resin_program.specs.Runs.{Leads}
-use Rattle.resin_evaluation.specs.Programs.{evals}
-use Rattle.resin_evaluation.specs.Calls.{values, values_on}
-use Rattle.resin_invoke.specs.Running.{at}
-use Rattle.resin_invoke.proofs.nested.Evaluator.values.Given as goal
-
-abbrev pub invariant-loop-e : goal.invariant-loop-e
-invariant-loop-e g l = Leads (values (evals l.self.room) l.es) (at g.F.Files g.T.Tables l.fn.run) (values_on (evals l.self.room) l.vs (drop l.e-index l.es)) (at g.F.Files g.T.Tables l.run)

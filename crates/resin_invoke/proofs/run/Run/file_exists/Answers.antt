@@ -1,4 +1,0 @@
-use Rattle.resin_invoke.proofs.run.Run.file_exists.Goals as goal
-
-pub returns : goal.returns
-returns g c = c.file_exists.ensures _

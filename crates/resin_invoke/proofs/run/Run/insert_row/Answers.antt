@@ -1,4 +1,0 @@
-use Rattle.resin_invoke.proofs.run.Run.insert_row.Goals as goal
-
-pub returns : goal.returns
-returns g c = c.insert_row.ensures _

@@ -1,4 +1,0 @@
-use Rattle.resin_invoke.proofs.run.Run.read_file.Goals as goal
-
-pub returns : goal.returns
-returns g c = c.read_file.ensures _

@@ -1,4 +1,0 @@
-use Rattle.resin_invoke.proofs.run.Run.table_rows.Goals as goal
-
-pub returns : goal.returns
-returns g c = c.table_rows.ensures _

@@ -1,4 +1,0 @@
-use Rattle.resin_invoke.proofs.run.Run.update_row.Goals as goal
-
-pub returns : goal.returns
-returns g c = c.update_row.ensures _

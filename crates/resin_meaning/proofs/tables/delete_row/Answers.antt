@@ -1,0 +1,9 @@
+use Rattle.resin_base.proofs.CallNumbers.{lists_settled}
+use Rattle.resin_meaning.proofs.OneCall.{does_unasked, does_table_call, delete_follows}
+use Rattle.resin_meaning.proofs.tables.delete_row.Goals as goal
+
+pub returns-in_err-ask : goal.returns-in_err-ask
+returns-in_err-ask g c = λ f. does_unasked _ _ c.args.m.now f _ _ _ _ _ c.from_residual.ensures.1 c.in_err-ask.ensures.asks
+
+pub returns : goal.returns
+returns g c = λ f. rw c.settle.ensures.answer (does_table_call _ _ _ c.args.m.now f _ _ _ _ _ c.in_ok-ask.ensures.asks.0 (lists_settled _ _ _ _ c.in_ok-ask.ensures.asks.1 c.settle.ensures.settled) (delete_follows c.args.name.now c.args.row _ _ _ c.delete-answer.ensures.contents) c.delete-answer.ensures.cause c.delete-answer.ensures.told)

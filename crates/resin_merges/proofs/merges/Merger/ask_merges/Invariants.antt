@@ -1,9 +1,0 @@
-use Rattle.resin_evaluation.specs.Merges.{ask_merges}
-use Rattle.resin_evaluation.specs.Programs.{evals}
-use Rattle.resin_program.specs.Runs.{Leads}
-use Rattle.std.proofs.Common.{drop}
-use Rattle.resin_invoke.specs.Running.{at}
-use Rattle.resin_merges.proofs.merges.Merger.ask_merges.Given as goal
-
-abbrev pub invariant-loop-p : goal.invariant-loop-p
-invariant-loop-p g l = Leads (ask_merges (evals l.self.by.now.room) l.others l.policies l.fn.so_far) (at g.F.Files g.T.Tables l.fn.run) (ask_merges (evals l.self.by.now.room) l.others (drop l.p-index l.policies) l.out) (at g.F.Files g.T.Tables l.run)

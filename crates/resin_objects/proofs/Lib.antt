@@ -1,2 +1,0 @@
-pub mod ConstantValues
-pub mod Found

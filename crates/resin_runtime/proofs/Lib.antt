@@ -1,4 +1,0 @@
-pub mod Declares
-pub mod Loops
-pub mod Pure
-pub mod Steps

@@ -1,6 +1,0 @@
-use Rattle.resin_steps.proofs.Answered.{does_computed}
-use Rattle.resin_runtime.proofs.values.behind.Goals as goal
-
-pub returns : goal.returns
-returns c =
-    λ f t k. does_computed _ _ c.joined-both.ensures c.settle.ensures.acts f t k

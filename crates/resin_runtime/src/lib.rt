@@ -1,8 +1,0 @@
-//! Parts of statements and of expressions that run no code of scripts: texts joined, declarations, what a `catch` takes, and which arguments the
-//! functions of channels take.
-#![tactic(auto)]
-
-pub mod channels;
-pub mod declarations;
-pub mod statements;
-pub mod values;

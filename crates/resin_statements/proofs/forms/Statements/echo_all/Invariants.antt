@@ -1,9 +1,0 @@
-use Rattle.std.proofs.Common.{drop}
-use Rattle.resin_program.specs.Runs.{Leads}
-use Rattle.resin_evaluation.specs.Programs.{evals}
-use Rattle.resin_evaluation.specs.Statements.{echo_all}
-use Rattle.resin_invoke.specs.Running.{at}
-use Rattle.resin_statements.proofs.forms.Statements.echo_all.Given as goal
-
-abbrev pub invariant-loop-e : goal.invariant-loop-e
-invariant-loop-e g l = Leads (echo_all (evals l.self.by.now.room) l.es) (at g.F.Files g.T.Tables l.fn.run) (echo_all (evals l.self.by.now.room) (drop l.e-index l.es)) (at g.F.Files g.T.Tables l.run)

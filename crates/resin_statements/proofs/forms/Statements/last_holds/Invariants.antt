@@ -1,9 +1,0 @@
-use Rattle.std.proofs.Common.{drop, true}
-use Rattle.resin_program.specs.Runs.{Leads}
-use Rattle.resin_evaluation.specs.Programs.{evals}
-use Rattle.resin_evaluation.specs.Statements.{last_holds}
-use Rattle.resin_invoke.specs.Running.{at}
-use Rattle.resin_statements.proofs.forms.Statements.last_holds.Given as goal
-
-abbrev pub invariant-loop-e : goal.invariant-loop-e
-invariant-loop-e g l = Leads (last_holds (evals l.self.by.now.room) true l.es) (at g.F.Files g.T.Tables l.fn.run) (last_holds (evals l.self.by.now.room) l.so_far (drop l.e-index l.es)) (at g.F.Files g.T.Tables l.run)

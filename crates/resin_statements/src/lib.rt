@@ -1,4 +1,0 @@
-//! Statements.
-#![tactic(auto)]
-
-pub mod forms;

@@ -1,0 +1,11 @@
+-- What this crate stands on, passed on to the crates above, which list this one alone.
+pub use Rattle.resin_step_parts.specs.Under.builtin
+pub use Rattle.resin_step_parts.specs.Under.label
+pub use Rattle.resin_step_parts.specs.Under.machine
+pub use Rattle.resin_step_parts.specs.Under.meaning
+pub use Rattle.resin_step_parts.specs.Under.meaning_forms
+pub use Rattle.resin_step_parts.specs.Under.ops
+pub use Rattle.resin_step_parts.specs.Under.scalar
+pub use Rattle.resin_step_parts.specs.Under.target
+pub use Rattle.resin_step_parts.specs.Under.tree
+pub use Rattle.resin_step_parts.specs.Under.value

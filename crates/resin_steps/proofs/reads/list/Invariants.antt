@@ -1,7 +1,0 @@
-use Rattle.std.proofs.Common.{◌≡◌, drop, map}
-use Rattle.resin_value.specs.Seen.{tree_of}
-use Rattle.resin_array_fn.specs.Filled.{filled_on, filled, in_order}
-use Rattle.resin_steps.proofs.reads.list.Given as goal
-
-abbrev pub invariant-loop-v : goal.invariant-loop-v
-invariant-loop-v l = filled_on l.out (in_order (map tree_of (drop l.v-index l.values))) ≡ filled (in_order (map tree_of l.values))

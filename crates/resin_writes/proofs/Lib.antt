@@ -1,4 +1,0 @@
-pub mod Exits
-pub mod Orders
-pub mod Others
-pub mod Prepared
