@@ -2,36 +2,36 @@
 use Rattle.std.proofs.Common.{◌≡◌, ℕ, List, [], ◌∷◌, Bool, true, false, ◌&&◌, map, Option, Some, None, refl, sym, ap, ◌∙◌}
 use Rattle.std.specs.List.{list_all}
 use Rattle.std.specs.Option.{option_map_or}
-use Rattle.resin_step_parts.specs.Under.tree.declared.expression.Access.{Access, Access-F, fold-Access, fold-roll-Access}
-use Rattle.resin_step_parts.specs.Under.tree.declared.expression.Access.TheVariants as access
-use Rattle.resin_step_parts.specs.Under.tree.declared.expression.Assignment.{Assignment, Assignment-F, fold-Assignment, fold-roll-Assignment}
-use Rattle.resin_step_parts.specs.Under.tree.declared.expression.Assignment.TheVariants as assignment
-use Rattle.resin_step_parts.specs.Under.tree.declared.expression.Call.{Call, Call-F, fold-Call, fold-roll-Call}
-use Rattle.resin_step_parts.specs.Under.tree.declared.expression.Call.TheVariants as call
-use Rattle.resin_step_parts.specs.Under.tree.declared.expression.Expr.{Expr, Expr-F, fold-Expr, fold-roll-Expr}
-use Rattle.resin_step_parts.specs.Under.tree.declared.expression.Expr.TheVariants as x
-use Rattle.resin_step_parts.specs.Under.tree.declared.expression.Operation.{Operation, Operation-F, fold-Operation, fold-roll-Operation}
-use Rattle.resin_step_parts.specs.Under.tree.declared.expression.Operation.TheVariants as operation
-use Rattle.resin_step_parts.specs.Under.tree.declared.expression.PathStep.{PathStep-F, fold-PathStep, fold-roll-PathStep}
-use Rattle.resin_step_parts.specs.Under.tree.declared.expression.PathStep.TheVariants as step
-use Rattle.resin_step_parts.specs.Under.tree.declared.expression.Test.{Test, Test-F, fold-Test, fold-roll-Test}
-use Rattle.resin_step_parts.specs.Under.tree.declared.expression.Test.TheVariants as test
-use Rattle.resin_step_parts.specs.Under.tree.declared.statement.Loop.{Loop, Loop-F, fold-Loop, fold-roll-Loop}
-use Rattle.resin_step_parts.specs.Under.tree.declared.statement.Loop.TheVariants as loop
-use Rattle.resin_step_parts.specs.Under.tree.declared.statement.StmtKind.{StmtKind-F, fold-StmtKind, fold-roll-StmtKind}
-use Rattle.resin_step_parts.specs.Under.tree.declared.statement.StmtKind.TheVariants as kind
-use Rattle.resin_step_parts.specs.Under.tree.declared.expression.ArrayItem.{ArrayItem, fold-roll-ArrayItem}
-use Rattle.resin_step_parts.specs.Under.tree.declared.expression.Target.{Target, fold-roll-Target}
-use Rattle.resin_step_parts.specs.Under.tree.declared.statement.Branch.{Branch, fold-Branch, fold-roll-Branch, out-Branch, roll-out-Branch}
-use Rattle.resin_step_parts.specs.Under.tree.declared.statement.Case.{Case, fold-roll-Case, out-Case, roll-Case, roll-out-Case}
-use Rattle.resin_step_parts.specs.Under.tree.declared.statement.Catch.{Catch, fold-Catch, fold-roll-Catch, out-Catch, roll-out-Catch}
-use Rattle.resin_step_parts.specs.Under.tree.declared.statement.Stmt.{Stmt, fold-roll-Stmt}
-use Rattle.resin_step_parts.specs.Under.tree.declared.expression.Literal.{Literal}
-use Rattle.resin_step_parts.specs.Under.tree.declared.expression.Unary.{Unary}
-use Rattle.resin_step_parts.specs.Under.tree.declared.expression.Combining.{Combining}
-use Rattle.resin_step_parts.specs.Under.tree.declared.expression.Comparison.{Comparison}
-use Rattle.resin_step_parts.specs.Under.tree.declared.expression.Import.{Import}
-use Rattle.resin_step_parts.specs.Under.tree.declared.statement.Simple.{Simple}
+use Rattle.resin_tree.specs.declared.expression.Access.{Access, Access-F, fold-Access, fold-roll-Access}
+use Rattle.resin_tree.specs.declared.expression.Access.TheVariants as access
+use Rattle.resin_tree.specs.declared.expression.Assignment.{Assignment, Assignment-F, fold-Assignment, fold-roll-Assignment}
+use Rattle.resin_tree.specs.declared.expression.Assignment.TheVariants as assignment
+use Rattle.resin_tree.specs.declared.expression.Call.{Call, Call-F, fold-Call, fold-roll-Call}
+use Rattle.resin_tree.specs.declared.expression.Call.TheVariants as call
+use Rattle.resin_tree.specs.declared.expression.Expr.{Expr, Expr-F, fold-Expr, fold-roll-Expr}
+use Rattle.resin_tree.specs.declared.expression.Expr.TheVariants as x
+use Rattle.resin_tree.specs.declared.expression.Operation.{Operation, Operation-F, fold-Operation, fold-roll-Operation}
+use Rattle.resin_tree.specs.declared.expression.Operation.TheVariants as operation
+use Rattle.resin_tree.specs.declared.expression.PathStep.{PathStep-F, fold-PathStep, fold-roll-PathStep}
+use Rattle.resin_tree.specs.declared.expression.PathStep.TheVariants as step
+use Rattle.resin_tree.specs.declared.expression.Test.{Test, Test-F, fold-Test, fold-roll-Test}
+use Rattle.resin_tree.specs.declared.expression.Test.TheVariants as test
+use Rattle.resin_tree.specs.declared.statement.Loop.{Loop, Loop-F, fold-Loop, fold-roll-Loop}
+use Rattle.resin_tree.specs.declared.statement.Loop.TheVariants as loop
+use Rattle.resin_tree.specs.declared.statement.StmtKind.{StmtKind-F, fold-StmtKind, fold-roll-StmtKind}
+use Rattle.resin_tree.specs.declared.statement.StmtKind.TheVariants as kind
+use Rattle.resin_tree.specs.declared.expression.ArrayItem.{ArrayItem, fold-roll-ArrayItem}
+use Rattle.resin_tree.specs.declared.expression.Target.{Target, fold-roll-Target}
+use Rattle.resin_tree.specs.declared.statement.Branch.{Branch, fold-Branch, fold-roll-Branch, out-Branch, roll-out-Branch}
+use Rattle.resin_tree.specs.declared.statement.Case.{Case, fold-roll-Case, out-Case, roll-Case, roll-out-Case}
+use Rattle.resin_tree.specs.declared.statement.Catch.{Catch, fold-Catch, fold-roll-Catch, out-Catch, roll-out-Catch}
+use Rattle.resin_tree.specs.declared.statement.Stmt.{Stmt, fold-roll-Stmt}
+use Rattle.resin_tree.specs.declared.expression.Literal.{Literal}
+use Rattle.resin_tree.specs.declared.expression.Unary.{Unary}
+use Rattle.resin_tree.specs.declared.expression.Combining.{Combining}
+use Rattle.resin_tree.specs.declared.expression.Comparison.{Comparison}
+use Rattle.resin_tree.specs.declared.expression.Import.{Import}
+use Rattle.resin_tree.specs.declared.statement.Simple.{Simple}
 use Rattle.resin_step_parts.specs.Under.meaning_forms.Built.{is_built_name, expr_is_built, target_is_built, stmt_is_built, simple_is_built, all, all_are_built, of_access, of_assignment, of_call, of_expr, of_operation, of_step, of_test, of_item, of_target, of_loop, of_kind, of_branch, of_case, of_catch, of_stmt}
 use Rattle.resin_built.specs.BuiltParts.{access_is_built, array_item_is_built, assignment_is_built, call_is_built, operation_is_built, step_is_built, test_is_built, branch_is_built, case_is_built, catch_is_built, loop_is_built, kind_is_built}
 

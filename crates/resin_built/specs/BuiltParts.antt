@@ -1,17 +1,17 @@
 -- Which parts of expressions and of statements are built.
 use Rattle.std.specs.Prelude.{Bool}
-use Rattle.resin_step_parts.specs.Under.tree.declared.expression.Access.{Access, fold-Access}
-use Rattle.resin_step_parts.specs.Under.tree.declared.expression.ArrayItem.{ArrayItem, fold-ArrayItem}
-use Rattle.resin_step_parts.specs.Under.tree.declared.expression.Assignment.{Assignment, fold-Assignment}
-use Rattle.resin_step_parts.specs.Under.tree.declared.expression.Call.{Call, fold-Call}
-use Rattle.resin_step_parts.specs.Under.tree.declared.expression.Operation.{Operation, fold-Operation}
-use Rattle.resin_step_parts.specs.Under.tree.declared.expression.PathStep.{PathStep, fold-PathStep}
-use Rattle.resin_step_parts.specs.Under.tree.declared.expression.Test.{Test, fold-Test}
-use Rattle.resin_step_parts.specs.Under.tree.declared.statement.Branch.{Branch, fold-Branch}
-use Rattle.resin_step_parts.specs.Under.tree.declared.statement.Case.{Case, fold-Case}
-use Rattle.resin_step_parts.specs.Under.tree.declared.statement.Catch.{Catch, fold-Catch}
-use Rattle.resin_step_parts.specs.Under.tree.declared.statement.Loop.{Loop, fold-Loop}
-use Rattle.resin_step_parts.specs.Under.tree.declared.statement.StmtKind.{StmtKind, fold-StmtKind}
+use Rattle.resin_tree.specs.declared.expression.Access.{Access, fold-Access}
+use Rattle.resin_tree.specs.declared.expression.ArrayItem.{ArrayItem, fold-ArrayItem}
+use Rattle.resin_tree.specs.declared.expression.Assignment.{Assignment, fold-Assignment}
+use Rattle.resin_tree.specs.declared.expression.Call.{Call, fold-Call}
+use Rattle.resin_tree.specs.declared.expression.Operation.{Operation, fold-Operation}
+use Rattle.resin_tree.specs.declared.expression.PathStep.{PathStep, fold-PathStep}
+use Rattle.resin_tree.specs.declared.expression.Test.{Test, fold-Test}
+use Rattle.resin_tree.specs.declared.statement.Branch.{Branch, fold-Branch}
+use Rattle.resin_tree.specs.declared.statement.Case.{Case, fold-Case}
+use Rattle.resin_tree.specs.declared.statement.Catch.{Catch, fold-Catch}
+use Rattle.resin_tree.specs.declared.statement.Loop.{Loop, fold-Loop}
+use Rattle.resin_tree.specs.declared.statement.StmtKind.{StmtKind, fold-StmtKind}
 use Rattle.resin_step_parts.specs.Under.meaning_forms.Built.{of_access, of_assignment, of_call, of_expr, of_operation, of_step, of_test, of_item, of_target, of_loop, of_kind, of_branch, of_case, of_catch, of_stmt}
 
 -- ---- parts of expressions

@@ -9,7 +9,7 @@ ghost use Rattle.resin_built.specs.BuiltParts.{access_is_built, array_item_is_bu
 use resin_step_parts::names::channel_named;
 use resin_step_parts::under::items::Boxed;
 use resin_step_parts::under::meaning_forms::ChannelFunction;
-use resin_step_parts::under::tree::{
+use resin_tree::{
     Access, ArrayItem, Assignment, Branch, Call, Case, Catch, Expr, Function, Item, Loop,
     Operation, PathStep, Program, Simple, Stmt, StmtKind, Target, Test,
 };
