@@ -1,0 +1,5 @@
+pub mod Basics
+pub mod Canonical
+pub mod Labelled
+pub mod Pairs
+pub mod Sessions
