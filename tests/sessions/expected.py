@@ -173,6 +173,10 @@ def answer(line):
     items = rest.split(b"|")
     if word == b"read":
         return shown_array(read(spelled(rest)))
+    if word == b"many":
+        array = {i: ("integer", i, 0) for i in range(int(rest))}
+        text = session_text(array)
+        return f"{len(text[0])} bytes, {len(read(text))} entries"
     array = {}
     if word != b"write":
         value = marked(b"v" * int(items.pop(0)))

@@ -49,7 +49,6 @@ unfolding kind letter_of
 kind_read w k e = by (pointwise nat_eq w (115 ∷ [])) refl e
   where
     by : (b : Bool) → pointwise nat_eq w (115 ∷ []) ≡ b → cond b (Some TextKind) (cond (pointwise nat_eq w (105 ∷ [])) (Some IntegerKind) None) ≡ Some k → w ≡ letter_of k ∷ []
-    unfolding letter_of
     by true is f = text_is w (115 ∷ []) is ∙ ap (λ j. letter_of j ∷ []) (from_some TextKind k f)
     by false is f = let h = some_if (pointwise nat_eq w (105 ∷ [])) IntegerKind k f in text_is w (105 ∷ []) h.0 ∙ ap (λ j. letter_of j ∷ []) h.1
 

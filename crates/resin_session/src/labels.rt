@@ -10,7 +10,8 @@ use resin_value::under::lstr::LText;
 pub(crate) fn is_plain(text: &LText) -> bool
     ensures { result ≡ spec.is_plain text.now }
 {
-    text.runs().iter().all(|run| run.set.as_slice().is_empty())
+    let none = PSet::empty();
+    text.runs().iter().all(|run| none.same(&run.set))
 }
 
 // The set of each byte, where all have the same and there is one.

@@ -83,6 +83,16 @@ pub fn long_array(alloc: Global, field: &[u8]) -> Result<Arr, TextFault> {
     Ok(array)
 }
 
+/// The array of the integers 0, 1 and so on.
+pub fn many(alloc: Global, count: u32) -> Result<Arr, TextFault> {
+    let mut array = Arr::new(alloc)?;
+    for i in 0..count {
+        let number = i64::from(i);
+        put(&mut array, &Key::Int(number), Value::Int(number, PSet::empty()))?;
+    }
+    Ok(array)
+}
+
 fn push_key(out: &mut String, key: &Key) -> Result<(), AllocError> {
     match key {
         Key::Int(number) => {
