@@ -1,5 +1,5 @@
 -- Labelled bytes at the front of a text are read back, and nothing else is read as they.
-use Rattle.std.proofs.Common.{◌≡◌, ℕ, zero, suc, ◌+◌, ◌^◌, ◌<◌, ◌≤◌, Bool, true, false, cond, List, [], ◌∷◌, ◌++◌, length, take, drop, Option, Some, None, refl, sym, ap, subst, ◌∙◌, arith, append_assoc, length-append}
+use Rattle.std.proofs.Common.{◌≡◌, ℕ, zero, suc, ◌+◌, ◌-◌, ◌^◌, ◌<◌, ◌≤◌, Bool, true, false, cond, List, [], ◌∷◌, ◌++◌, length, take, drop, Option, Some, None, refl, sym, ap, subst, ◌∙◌, arith, append_assoc, length-append}
 use lib.Signed.{mag}
 use Rattle.std.specs.Prelude.{◌&&◌, not, nat_eq, nat_le, nat_lt, ℤ, pos, negsuc, map, decimal}
 use Rattle.std.specs.Fmt.{signed_decimal}
@@ -8,7 +8,7 @@ use Rattle.std.specs.Str.{all_ascii_digits}
 use Rattle.std.specs.Cmp.Lexicographic.{pointwise}
 use Rattle.std.proofs.lemmas.Str.Parse.{tells_all_ascii_digits, numerals_by_value}
 use Rattle.std.proofs.lemmas.Fmt.{digits_decimal, decimal_nonempty}
-use Rattle.std.proofs.lemmas.List.{map-append, take_at, drop_at, length-take-le, take-append-drop}
+use Rattle.std.proofs.lemmas.List.{map-append, length-map, take_at, drop_at, take_rest, length-take-le, take-append-drop}
 use Rattle.std.proofs.lemmas.Bool.Decides.{nat_tests}
 use Rattle.resin_value.specs.Under.bytes.Canonical.{canonical_integer}
 use Rattle.resin_value.specs.Under.label.Sets.{NumberSet, same, numbers, empty as no_labels}
@@ -81,6 +81,31 @@ plain_read n xs w rest e =
       r.0 ∙ ap (λ p. p ++ t.0.1) back ∙ ap (λ q. carrying no_labels q.0 ++ q.1) h.1,
       ap (λ q. length q.0) (sym h.1) ∙ sym short ∙ r.1,
     )
+
+-- what is read where the bytes are known
+pub plain_gives : (n : ℕ) (xs piece new : Text) (bs : List ℕ) → bs ≡ bytes_of xs → taken n xs ≡ Some (piece, new) → is_plain piece ≡ true → plain n xs ≡ Some (take n bs, new)
+unfolding plain
+plain_gives n xs piece new bs b e h =
+    let r = taken_read n xs piece new e in
+    let front : take n bs ≡ bytes_of piece =
+    ap (take n) (b ∙ ap bytes_of r.0 ∙ map-append (λ p. p.0) piece new) ∙ take_at (bytes_of piece) (bytes_of new) n (length-map piece (λ p. p.0) ∙ r.1) in
+    on (λ t. cond (is_plain t.0) (Some (bytes_of t.0, t.1)) None) e ∙ ap (λ c. cond c (Some (bytes_of piece, new)) None) h ∙ ap (λ v. Some (v, new)) (sym front)
+
+pub bytes_enough : (n : ℕ) (xs piece new : Text) (bs : List ℕ) → bs ≡ bytes_of xs → taken n xs ≡ Some (piece, new) → n ≤ length bs
+bytes_enough n xs piece new bs b e =
+    let r = taken_read n xs piece new e in
+    let l = ap length b ∙ length-map xs (λ p. p.0) in
+    let m = ap length r.0 ∙ length-append piece new in
+    omega (arith, l, m, r.1)
+
+drop_bytes : (n : ℕ) (t : Text) → drop n (bytes_of t) ≡ bytes_of (drop n t)
+drop_bytes zero t = refl
+drop_bytes (suc n) [] = refl
+drop_bytes (suc n) (p ∷ t) = drop_bytes n t
+
+-- the bytes that are left behind a place
+pub left_bytes : (at : ℕ) (t xs : Text) (bs : List ℕ) → bs ≡ bytes_of t → drop at t ≡ xs → take (length bs - at) (drop at bs) ≡ bytes_of xs
+left_bytes at t xs bs b e = take_rest bs at ∙ ap (drop at) b ∙ drop_bytes at t ∙ ap bytes_of e
 
 -- ---- this byte
 pub byte-front : (c : ℕ) (rest : Text) → byte c (carrying no_labels (c ∷ []) ++ rest) ≡ Some (tt, rest)

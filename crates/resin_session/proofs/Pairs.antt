@@ -1,6 +1,6 @@
 -- Entries are read back, and nothing else is read as one.
 use Rattle.std.proofs.Common.{◌≡◌, ℕ, ℤ, zero, suc, ◌+◌, ◌^◌, ◌<◌, ◌≤◌, Bool, true, false, cond, List, [], ◌∷◌, ◌++◌, length, Option, Some, None, refl, sym, ap, subst, ◌∙◌, arith, append_assoc, length-append}
-use Rattle.std.specs.Prelude.{nat_eq, decimal, is_none}
+use Rattle.std.specs.Prelude.{nat_eq, decimal, is_none, is_some, option_map}
 use Rattle.std.specs.Fmt.{signed_decimal}
 use Rattle.std.specs.Cmp.Lexicographic.{pointwise}
 use Rattle.resin_value.specs.Under.bytes.Canonical.{canonical_integer}
@@ -31,7 +31,7 @@ kind_of (text t) = TextKind
 kind_of (array r l h) = TextKind
 kind_of (object n) = TextKind
 
-letter_of : Kind → ℕ
+abbrev letter_of : Kind → ℕ
 letter_of TextKind = 115
 letter_of IntegerKind = 105
 
@@ -45,7 +45,7 @@ kind-letter (array r l h) = refl
 kind-letter (object n) = refl
 
 kind_read : (w : List ℕ) (k : Kind) → kind w ≡ Some k → w ≡ letter_of k ∷ []
-unfolding kind letter_of
+unfolding kind
 kind_read w k e = by (pointwise nat_eq w (115 ∷ [])) refl e
   where
     by : (b : Bool) → pointwise nat_eq w (115 ∷ []) ≡ b → cond b (Some TextKind) (cond (pointwise nat_eq w (105 ∷ [])) (Some IntegerKind) None) ≡ Some k → w ≡ letter_of k ∷ []
@@ -69,7 +69,7 @@ record ValueRead (k : Kind) (t : Text) (v : Tree) : Type 0 where
   kind : letter_of k ≡ letter v
 
 value_read : (k : Kind) (t : Text) (v : Tree) → value k t ≡ Some v → ValueRead k t v
-unfolding value letter_of
+unfolding value
 value_read TextKind t v e = subst (ValueRead TextKind t) (from_some (text t) v e) (record { kept = tt; told = refl; kind = refl })
 value_read IntegerKind t v e = let r = number_read t v e in subst (ValueRead IntegerKind t) r.is (record { kept = r.low; told = r.told; kind = refl })
 
@@ -81,13 +81,13 @@ value_line-front v rest h =
     ∙ on (λ u. Some (u, rest)) (value-front v h)
 
 -- a value and its newline that were read
-record LineRead (k : Kind) (n : ℕ) (xs : Text) (v : Tree) (rest : Text) : Type 0 where
-  kept : IsKept v
+pub record LineRead (k : Kind) (n : ℕ) (xs : Text) (v : Tree) (rest : Text) : Type 0 where
+  pub kept : IsKept v
   told : xs ≡ value_text v ++ (carrying no_labels (10 ∷ []) ++ rest)
   len : length (value_text v) ≡ n
   kind : letter_of k ≡ letter v
 
-value_line_read : (k : Kind) (n : ℕ) (xs : Text) (v : Tree) (rest : Text) → value_line k n xs ≡ Some (v, rest) → LineRead k n xs v rest
+pub value_line_read : (k : Kind) (n : ℕ) (xs : Text) (v : Tree) (rest : Text) → value_line k n xs ≡ Some (v, rest) → LineRead k n xs v rest
 unfolding value_line
 value_line_read k n xs v rest e =
     let t = bound (taken n xs) (λ t. and_then (byte 10 t.1) (λ e. and_then (value k t.0) (λ u. Some (u, e.1)))) (v, rest) e in
@@ -217,6 +217,11 @@ more-front es k v rest key_is kept fresh low short =
     ∙ on (λ k. cond (is_none (lookup k.0 es)) (and_then (value_line (kind_of v) (length (value_text v)) k.1) (λ v. Some (es ++ (k.0, v.0) ∷ [], v.1))) None) (key-front k two key_is)
     ∙ ap (λ o. cond (is_none o) (and_then (value_line (kind_of v) (length (value_text v)) two) (λ v. Some (es ++ (k, v.0) ∷ [], v.1))) None) fresh
     ∙ on (λ v. Some (es ++ (k, v.0) ∷ [], v.1)) (value_line-front v rest kept)
+
+-- what an array without the key gives
+pub absent : {X Y : Type 0} (o : Option X) (f : X → Y) (l : Option Y) → is_some o ≡ false → option_map f o ≡ l → l ≡ None
+absent None f l h e = sym e
+absent (Some x) f l h e = absurd (cc)
 
 -- an entry that was read
 pub record MoreRead (es : EntryList) (xs : Text) (fs : EntryList) (rest : Text) : Type 0 where

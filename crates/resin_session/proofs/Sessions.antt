@@ -1,6 +1,6 @@
 -- A session text is read back, and nothing else is read as one.
 use Rattle.std.proofs.Common.{◌≡◌, ℕ, zero, suc, ◌+◌, ◌^◌, ◌<◌, ◌≤◌, Bool, true, false, cond, List, [], ◌∷◌, ◌++◌, length, Option, Some, None, refl, sym, ap, subst, ◌∙◌, arith, append_assoc, append-nil, length-append}
-use Rattle.std.specs.Prelude.{option_map}
+use Rattle.std.specs.Prelude.{option_map, is_none, Result, Ok, Err}
 use Rattle.std.specs.List.{AllByRecursion}
 use Rattle.std.proofs.lemmas.List.Sums.{fold_push}
 use Rattle.resin_value.specs.Under.lstr.Texts.{Text, LONGEST}
@@ -13,10 +13,14 @@ use Rattle.resin_value.proofs.Keeps.{other_key}
 use Rattle.resin_value.proofs.Pairs.{put_last}
 use Rattle.resin_session.specs.Texts.{key_text, value_text, entry_text, session_text}
 use Rattle.resin_session.specs.Sessions.{IsKey, IsKept, array_of, IsSessionOf}
-use Rattle.resin_session.specs.Reading.{and_then, more, all, session}
+use Rattle.resin_session.specs.declared.stop.Stop.{Stop}
+use Rattle.resin_session.specs.declared.stop.Stop.TheVariants as stops
+use Rattle.resin_session.specs.Answers.{Is, ReadsArray, KeepsArray}
+use Rattle.resin_session.specs.declared.entries.Head.{Head}
+use Rattle.resin_session.specs.Reading.{and_then, key, head, value_line, more, all, session}
 use Rattle.resin_session.specs.Laws.{KeepsOneArray, ReadsWhatIsKept}
 use Rattle.resin_session.proofs.Basics.{from_some, none_some, bound, on}
-use Rattle.resin_session.proofs.Pairs.{entry_long, more-front, MoreRead, more_read}
+use Rattle.resin_session.proofs.Pairs.{entry_long, value_line_read, more-front, MoreRead, more_read}
 
 -- ---- keys that are new
 some_none : {X : Type 0} (x : X) → Some x ≡ None → ⊥
@@ -154,7 +158,7 @@ enough (suc n) (suc m) es (x ∷ xs) h l =
     same_rest n m (more es (x ∷ xs)) (λ r e. let s = shorter es (x ∷ xs) r.0 r.1 e in enough n m r.0 r.1 (omega (arith, s, h)) (omega (arith, s, l)))
 
 -- what the rest of a text gives, behind the entries that were read
-pub turn : (es fs : EntryList) (xs rest : Text) → more es xs ≡ Some (fs, rest) → all (length xs) es xs ≡ all (length rest) fs rest
+turn : (es fs : EntryList) (xs rest : Text) → more es xs ≡ Some (fs, rest) → all (length xs) es xs ≡ all (length rest) fs rest
 turn es fs [] rest e = absurd (let s = shorter es [] fs rest e in omega (arith, s))
 turn es fs (x ∷ xs) rest e =
     let s = shorter es (x ∷ xs) fs rest e in
@@ -163,13 +167,33 @@ turn es fs (x ∷ xs) rest e =
 pub falls : (es fs : EntryList) (xs rest : Text) → more es xs ≡ Some (fs, rest) → length rest < length xs
 falls es fs xs rest e = shorter es xs fs rest e
 
-pub fails : (es : EntryList) (xs : Text) → 0 < length xs → more es xs ≡ None → all (length xs) es xs ≡ None
+fails : (es : EntryList) (xs : Text) → 0 < length xs → more es xs ≡ None → all (length xs) es xs ≡ None
 fails es [] h e = absurd (omega arith)
 fails es (x ∷ xs) h e = ap (λ o. and_then o (λ r. all (length xs) r.0 r.1)) e
 
-pub ends : (es : EntryList) (xs : Text) → length xs ≡ 0 → all (length xs) es xs ≡ Some es
+ends : (es : EntryList) (xs : Text) → length xs ≡ 0 → all (length xs) es xs ≡ Some es
 ends es [] h = refl
 ends es (x ∷ xs) h = absurd (omega arith)
+
+-- what was read of a text before its rest
+pub record Begun (t : Text) (a : Array) (rest : Text) : Type 0 where
+  pub is : all (length rest) a.entries rest ≡ all (length t) [] t
+  pub built : a ≡ array_of a.entries
+
+pub begun_more : (t : Text) (a b : Array) (xs rest : Text) → Begun t a xs → ReadsArray (more a.entries xs) (Ok b) rest → Begun t b rest
+begun_more t a b xs rest h r = record { is = sym (turn a.entries b.entries xs rest r.0) ∙ h.is; built = r.1 }
+
+pub begun_fails : (t : Text) (a : Array) (xs new : Text) (stop : Stop) → 0 < length xs → Begun t a xs → ReadsArray (more a.entries xs) (Err stop) new → Is (session t) (Err stop)
+unfolding session
+begun_fails t a xs new stops.Form lt h r = ap (option_map array_of) (sym h.is ∙ fails a.entries xs lt r)
+begun_fails t a xs new stops.Memory lt h r = tt
+
+pub begun_ends : (t : Text) (a : Array) (xs : Text) → length xs ≡ 0 → Begun t a xs → session t ≡ Some a
+unfolding session
+begun_ends t a xs e h = ap (option_map array_of) (sym h.is ∙ ends a.entries xs e) ∙ ap Some (sym h.built)
+
+pub nothing_kept : (t : Text) → length t ≤ LONGEST → session t ≡ None → KeepsArray t None
+nothing_kept t le e a h = absurd (none_some a (sym e ∙ session-front t a le h))
 
 -- ---- an entry put last
 no_array : (v : Tree) → IsKept v → raised 1 v ≡ 1
@@ -186,3 +210,20 @@ put_kept k v es fresh kept =
     let largest = sym (fold_push (λ l (e : Key × Tree). largest_with e.0 l) None es (k, v)) in
     let height = no_array v kept in
     (λ i. record { entries = entries i; largest = largest i; height = height i })
+
+-- the array with the entry that was read
+pub added : (a b : Array) (h : Head) (k : Key) (v : Tree) (xs ys zs rest : Text) → head xs ≡ Some (h, ys) → key h.key_len ys ≡ Some (k, zs) → lookup k a.entries ≡ None → value_line h.kind h.value_len zs ≡ Some (v, rest)
+    → a ≡ array_of a.entries → b ≡ put k v a → (more a.entries xs ≡ Some (b.entries, rest)) × (b ≡ array_of b.entries)
+unfolding more
+added a b h k v xs ys zs rest f g n l built is =
+    let kept = (value_line_read h.kind h.value_len zs v rest l).kept in
+    let es = a.entries in
+    let whole : b ≡ array_of (es ++ (k, v) ∷ []) = is ∙ ap (put k v) built ∙ put_kept k v es n kept in
+    let entries : b.entries ≡ es ++ (k, v) ∷ [] = ap (λ c. c.entries) whole in (
+      on (λ h. and_then (key h.0.key_len h.1) (λ k. cond (is_none (lookup k.0 es)) (and_then (value_line h.0.kind h.0.value_len k.1) (λ v. Some (es ++ (k.0, v.0) ∷ [], v.1))) None)) f
+          ∙ on (λ k. cond (is_none (lookup k.0 es)) (and_then (value_line h.kind h.value_len k.1) (λ v. Some (es ++ (k.0, v.0) ∷ [], v.1))) None) g
+          ∙ ap (λ o. cond (is_none o) (and_then (value_line h.kind h.value_len zs) (λ v. Some (es ++ (k, v.0) ∷ [], v.1))) None) n
+          ∙ on (λ v. Some (es ++ (k, v.0) ∷ [], v.1)) l
+          ∙ ap (λ fs. Some (fs, rest)) (sym entries),
+      whole ∙ ap array_of (sym entries),
+    )

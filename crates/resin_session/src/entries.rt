@@ -75,10 +75,13 @@ fn read_key(alloc: Global, rest: &mut Rest<'_>, len: usize) -> Result<Key, Stop>
 fn number(text: &LText) -> Result<Value, Stop>
     ensures { IsValue (spec.number text.now) result }
 {
-    match (one_set(text), canonical_key(text.bytes())) {
-        (Some(set), Some(number)) => Ok(Value::Int(number, set.clone()?)),
-        _ => Err(Stop::Form),
-    }
+    let Some(set) = one_set(text) else {
+        return Err(Stop::Form);
+    };
+    let Some(number) = canonical_key(text.bytes()) else {
+        return Err(Stop::Form);
+    };
+    Ok(Value::Int(number, set.clone()?))
 }
 
 // The value of a kind that a text is.

@@ -22,6 +22,7 @@ pub fn read_session(alloc: Global, text: &LText) -> Result<Option<Arr>, AllocErr
     ensures kept { IfOk result (λ array. KeepsArray text.now array) }
     ensures read { IfOk result (λ array. array ≡ spec.session text.now) }
 {
+    let _len = text.len();
     match read_entries(alloc, text) {
         Ok(array) => Ok(Some(array)),
         Err(Stop::Form) => Ok(None),
@@ -36,7 +37,7 @@ fn read_entries(alloc: Global, text: &LText) -> Result<Arr, Stop>
 {
     let mut rest = Rest::new(text);
     let mut array = Arr::new(alloc)?;
-    while !rest.is_empty() {
+    'entries: while !rest.is_empty() {
         array = read_entry(alloc, &mut rest, array)?;
     }
     Ok(array)

@@ -46,6 +46,13 @@ impl<'a> Rest<'a> {
         self.at == self.text.len()
     }
 
+    // The bytes.
+    fn bytes(&self) -> &'a [u8]
+        ensures { result.now ≡ bytes_of self.now }
+    {
+        &self.text.bytes()[self.at..]
+    }
+
     // Takes so many bytes.
     #[tactic(auto, unfolding(crate::specs::Reading::taken))]
     pub(crate) fn take(&mut self, alloc: Global, len: usize) -> Result<LText, Stop>
@@ -66,7 +73,7 @@ impl<'a> Rest<'a> {
     pub(crate) fn plain(&mut self, alloc: Global, len: usize) -> Result<&'a [u8], Stop>
         ensures { Lends (spec.plain len self.old) result self.new }
     {
-        let bytes = &self.text.bytes()[self.at..];
+        let bytes = self.bytes();
         let piece = self.take(alloc, len)?;
         if is_plain(&piece) {
             Ok(&bytes[..len])
@@ -93,7 +100,7 @@ impl<'a> Rest<'a> {
     pub(crate) fn until(&mut self, alloc: Global, end: u8) -> Result<&'a [u8], Stop>
         ensures { Lends (spec.until end self.old) result self.new }
     {
-        match place_of(&self.text.bytes()[self.at..], end) {
+        match place_of(self.bytes(), end) {
             Some(len) => {
                 let bytes = self.plain(alloc, len)?;
                 self.pass(alloc, end)?;

@@ -1,10 +1,13 @@
 //! Writing session texts.
-ghost use Rattle.std.specs.Prelude.{◌≡◌, ◌++◌, ◌∷◌, true, length, decimal, OnOk, IfOk};
-ghost use Rattle.std.specs.List.{list_all};
+ghost use Rattle.std.specs.Prelude.{◌≡◌, ◌++◌, ◌∷◌, [], true, length, decimal, OnOk, IfOk};
+ghost use Rattle.std.specs.Fmt.{signed_decimal};
+ghost use Rattle.std.specs.List.{list_all, AllByRecursion};
+ghost use Rattle.resin_value.specs.Under.label.Sets.{empty};
+ghost use Rattle.resin_value.specs.Under.lstr.Texts.{carrying};
 ghost use Rattle.resin_value.specs.Under.lstr.Faults.{GivesText};
 ghost use Rattle.resin_value.specs.Seen.{tree_of};
 ghost use Rattle.resin_session.specs.Texts as texts;
-ghost use Rattle.resin_session.specs.Sessions.{IsInRange, IsKept};
+ghost use Rattle.resin_session.specs.Sessions.{IsInteger, IsInRange, IsKept};
 ghost use Rattle.resin_session.specs.Answers.{GivesSession};
 
 use crate::fault::SessionFault;
@@ -45,6 +48,14 @@ fn letter(value: &Value) -> u8
     }
 }
 
+// An integer as a canonical decimal.
+fn integer_text(alloc: Global, number: i64) -> Result<Bytes, AllocError>
+    ensures text { IfOk result (λ bytes. bytes ≡ signed_decimal number) }
+    ensures range { IsInteger number }
+{
+    decimal(alloc, number)
+}
+
 // A value as a text.
 fn value_text(alloc: Global, value: &Value) -> Result<LText, TextFault>
     requires { texts.is_storable (tree_of value.now) ≡ true }
@@ -53,9 +64,13 @@ fn value_text(alloc: Global, value: &Value) -> Result<LText, TextFault>
 {
     match value {
         Value::Int(number, labels) => {
-            LText::with_set(alloc, decimal(alloc, *number)?.as_slice(), labels)
+            let digits = integer_text(alloc, *number)?;
+            LText::with_set(alloc, digits.as_slice(), labels)
         }
-        Value::Text(text) => Ok(text.clone()?),
+        Value::Text(text) => {
+            let _short = text.len();
+            Ok(text.clone()?)
+        }
         _ => unreachable!(),
     }
 }
@@ -66,7 +81,7 @@ fn key_text(alloc: Global, key: &Key) -> Result<Bytes, AllocError>
     ensures range { IsInRange key.now }
 {
     match key {
-        Key::Int(number) => decimal(alloc, *number),
+        Key::Int(number) => integer_text(alloc, *number),
         Key::Text(text) => Bytes::from_slice(alloc, text.as_slice()),
     }
 }
@@ -93,25 +108,38 @@ fn head_text(alloc: Global, kind: u8, key: &[u8], len: usize) -> Result<Bytes, A
     Ok(text)
 }
 
+// Puts what stands before a value, the value and a newline last.
+fn push_parts(out: Builder, head: &[u8], value: &LText) -> Result<Builder, TextFault>
+    ensures { GivesText result (out ++ (carrying empty head.now ++ (value.now ++ carrying empty (10 ∷ [])))) }
+{
+    let none = PSet::empty();
+    let out = out.append_bytes(head, &none)?;
+    let out = out.append(value)?;
+    out.append_bytes(b"\n", &none)
+}
+
 // Puts an entry last.
 fn push_entry(alloc: Global, out: Builder, key: &Key, value: &Value) -> Result<Builder, TextFault>
     requires { texts.is_storable (tree_of value.now) ≡ true }
     ensures text { GivesText result (out ++ texts.entry_text (key.now, tree_of value.now)) }
-    ensures key { IsInRange key.now }
-    ensures kept { IsKept (tree_of value.now) }
+    ensures key { OnOk result (IsInRange key.now) }
+    ensures kept { OnOk result (IsKept (tree_of value.now)) }
 {
     let text = value_text(alloc, value)?;
-    let key = key_text(alloc, key)?;
-    let head = head_text(alloc, letter(value), key.as_slice(), text.len())?;
-    out.append_bytes(head.as_slice(), &PSet::empty())?
-        .append(&text)?
-        .append_bytes(b"\n", &PSet::empty())
+    let bytes = key_text(alloc, key)?;
+    let name = bytes.as_slice();
+    let kind = letter(value);
+    let len = text.len();
+    let head = head_text(alloc, kind, name, len)?;
+    push_parts(out, head.as_slice(), &text)
 }
 
 // The text of entries whose values are all kept.
 fn entries_text(alloc: Global, array: &Arr) -> Result<LText, TextFault>
     requires { list_all (λ e. texts.is_storable e.1) array.now.entries ≡ true }
-    ensures { GivesText result (texts.session_text array.now.entries) }
+    ensures text { GivesText result (texts.session_text array.now.entries) }
+    ensures keys { OnOk result (AllByRecursion (λ e. IsInRange e.0) array.now.entries) }
+    ensures values { OnOk result (AllByRecursion (λ e. IsKept e.1) array.now.entries) }
 {
     let mut out = Builder::new(alloc);
     for i in 0..array.len() {
@@ -129,5 +157,7 @@ pub fn write_session(alloc: Global, array: &Arr) -> Result<LText, SessionFault>
     if !are_storable(array) {
         return Err(SessionFault::NotStorable);
     }
-    Ok(entries_text(alloc, array)?)
+    let _len = array.len();
+    let session = entries_text(alloc, array)?;
+    Ok(session)
 }
