@@ -1,5 +1,5 @@
 -- Entries are read back, and nothing else is read as one.
-use Rattle.std.proofs.Common.{◌≡◌, ℕ, ℤ, zero, suc, ◌+◌, ◌^◌, ◌<◌, ◌≤◌, Bool, true, false, cond, List, [], ◌∷◌, ◌++◌, length, Option, Some, None, refl, sym, ap, subst, ◌∙◌, arith, append_assoc, length-append}
+use Rattle.std.proofs.Common.{◌≡◌, ℕ, ℤ, ◌+◌, ◌^◌, ◌<◌, Bool, true, false, cond, List, [], ◌∷◌, ◌++◌, length, Option, Some, None, refl, sym, ap, subst, ◌∙◌, arith, append_assoc, length-append}
 use Rattle.std.specs.Prelude.{nat_eq, decimal, is_none, is_some, option_map}
 use Rattle.std.specs.Fmt.{signed_decimal}
 use Rattle.std.specs.Cmp.Lexicographic.{pointwise}
@@ -17,8 +17,8 @@ use Rattle.resin_session.specs.declared.entries.Kind.TheVariants.{Integer as Int
 use Rattle.resin_session.specs.declared.entries.Head.{Head}
 use Rattle.resin_session.specs.Texts.{letter, value_text, key_text, head_text, entry_text}
 use Rattle.resin_session.specs.Sessions.{IsKey, IsKept}
-use Rattle.resin_session.specs.Reading.{and_then, taken, plain, byte, count, number, kind, value, key, heading, head, value_line, more}
-use Rattle.resin_session.proofs.Basics.{text_is, from_some, none_some, some_if, chosen, bound, on}
+use Rattle.resin_session.specs.Reading.{and_then, taken, plain, byte, count, kind, value, key, heading, head, value_line, more}
+use Rattle.resin_session.proofs.Basics.{text_is, from_some, some_if, chosen, bound, on}
 use Rattle.resin_session.proofs.Canonical.{canonical-signed, canonical_read}
 use Rattle.resin_session.proofs.Labelled.{carrying-append, length_carrying, taken-front, taken_read, plain-front, plain_read, byte-front, byte_read, count-front, count_read, number-front, number_read}
 
@@ -163,8 +163,8 @@ head_read xs h rest e =
     let p = from_some (heading k.0 m.0.0 n.0.0, n.0.1) (h, rest) n.2 in
     (plain_read 1 xs w.0.0 w.0.1 w.1).0 ∙ ap (λ v. carrying no_labels v ++ w.0.1) (kind_read w.0.0 k.0 k.1)
     ∙ ap (λ t. carrying no_labels (letter_of k.0 ∷ []) ++ t) (
-      byte_read 32 w.0.1 b.0.0 b.0.1 b.1
-      ∙ ap (λ t. carrying no_labels (32 ∷ []) ++ t) (count_read 32 b.0.1 m.0.0 m.0.1 m.1 ∙ ap (λ t. carrying no_labels (decimal m.0.0 ++ 32 ∷ []) ++ t) (count_read 10 m.0.1 n.0.0 n.0.1 n.1))
+    byte_read 32 w.0.1 b.0.0 b.0.1 b.1
+    ∙ ap (λ t. carrying no_labels (32 ∷ []) ++ t) (count_read 32 b.0.1 m.0.0 m.0.1 m.1 ∙ ap (λ t. carrying no_labels (decimal m.0.0 ++ 32 ∷ []) ++ t) (count_read 10 m.0.1 n.0.0 n.0.1 n.1))
     )
     ∙ ap (λ q. headed (letter_of q.0.kind) q.0.key_len q.0.value_len q.1) p
 

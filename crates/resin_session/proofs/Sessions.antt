@@ -1,6 +1,6 @@
 -- A session text is read back, and nothing else is read as one.
-use Rattle.std.proofs.Common.{◌≡◌, ℕ, zero, suc, ◌+◌, ◌^◌, ◌<◌, ◌≤◌, Bool, true, false, cond, List, [], ◌∷◌, ◌++◌, length, Option, Some, None, refl, sym, ap, subst, ◌∙◌, arith, append_assoc, append-nil, length-append}
-use Rattle.std.specs.Prelude.{option_map, is_none, Result, Ok, Err}
+use Rattle.std.proofs.Common.{◌≡◌, ℕ, zero, suc, ◌^◌, ◌<◌, ◌≤◌, Bool, true, false, cond, [], ◌∷◌, ◌++◌, length, Option, Some, None, refl, sym, ap, subst, ◌∙◌, arith, append_assoc, append-nil, length-append}
+use Rattle.std.specs.Prelude.{option_map, is_none, Ok, Err}
 use Rattle.std.specs.List.{AllByRecursion}
 use Rattle.std.proofs.lemmas.List.Sums.{fold_push}
 use Rattle.resin_value.specs.Under.lstr.Texts.{Text, LONGEST}
@@ -11,7 +11,7 @@ use Rattle.resin_value.specs.Arrays.{EntryList, Array}
 use Rattle.resin_value.specs.Changes.{lookup, put, raised, largest_with, IsApart}
 use Rattle.resin_value.proofs.Keeps.{other_key}
 use Rattle.resin_value.proofs.Pairs.{put_last}
-use Rattle.resin_session.specs.Texts.{key_text, value_text, entry_text, session_text}
+use Rattle.resin_session.specs.Texts.{entry_text, session_text}
 use Rattle.resin_session.specs.Sessions.{IsKey, IsKept, array_of, IsSessionOf}
 use Rattle.resin_session.specs.declared.stop.Stop.{Stop}
 use Rattle.resin_session.specs.declared.stop.Stop.TheVariants as stops
@@ -20,7 +20,7 @@ use Rattle.resin_session.specs.declared.entries.Head.{Head}
 use Rattle.resin_session.specs.Reading.{and_then, key, head, value_line, more, all, session}
 use Rattle.resin_session.specs.Laws.{KeepsOneArray, ReadsWhatIsKept}
 use Rattle.resin_session.proofs.Basics.{from_some, none_some, bound, on}
-use Rattle.resin_session.proofs.Pairs.{entry_long, value_line_read, more-front, MoreRead, more_read}
+use Rattle.resin_session.proofs.Pairs.{entry_long, value_line_read, more-front, more_read}
 
 -- ---- keys that are new
 some_none : {X : Type 0} (x : X) → Some x ≡ None → ⊥

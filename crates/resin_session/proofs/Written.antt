@@ -1,7 +1,7 @@
 -- What has been written of an array, entry by entry.
-use Rattle.std.proofs.Common.{◌≡◌, ℕ, zero, suc, ◌+◌, ◌<◌, ◌≤◌, Bool, true, false, cond, List, [], ◌∷◌, ◌++◌, length, take, slice_get, get_or, Some, None, Result, Ok, Err, refl, sym, ap, subst, ◌∙◌, arith, append_assoc, append-nil, add-one, length-append}
-use Rattle.std.specs.Prelude.{◌&&◌, IsTrue}
-use Rattle.std.specs.List.{list_all, flat_map, AllByRecursion}
+use Rattle.std.proofs.Common.{◌≡◌, ℕ, zero, suc, ◌+◌, ◌<◌, ◌≤◌, Bool, true, false, List, [], ◌∷◌, ◌++◌, length, take, slice_get, get_or, Some, Ok, Err, refl, sym, ap, subst, ◌∙◌, arith, append_assoc, add-one, length-append}
+use Rattle.std.specs.Prelude.{◌&&◌}
+use Rattle.std.specs.List.{list_all, AllByRecursion}
 use Rattle.std.proofs.lemmas.List.{flat_map_more, take_all}
 use Rattle.std.proofs.lemmas.List.Folds.{length-flat_map-take}
 use Rattle.resin_value.specs.Under.label.Sets.{empty as no_labels}
@@ -10,13 +10,11 @@ use Rattle.resin_value.specs.Under.lstr.Faults.{GivesText}
 use Rattle.resin_value.specs.Under.lstr.declared.text.TextFault.{TextFault}
 use Rattle.resin_value.specs.Under.lstr.declared.text.TextFault.TheVariants as l
 use Rattle.resin_value.specs.declared.key.Key.{Key}
-use Rattle.resin_value.specs.Keys.{is_lawful}
 use Rattle.resin_value.specs.Trees.{Tree}
 use Rattle.resin_value.specs.Arrays.{EntryList}
-use Rattle.resin_value.specs.Changes.{AreLawful, IsArray, IsApart}
-use Rattle.resin_session.specs.declared.fault.SessionFault.{SessionFault}
-use Rattle.resin_session.specs.Texts.{is_storable, letter, key_text, value_text, head_text, entry_text, session_text}
-use Rattle.resin_session.specs.Sessions.{IsInRange, IsKey, IsKept, array_of, IsSessionOf}
+use Rattle.resin_value.specs.Changes.{AreLawful, IsApart}
+use Rattle.resin_session.specs.Texts.{is_storable, head_text, entry_text, session_text}
+use Rattle.resin_session.specs.Sessions.{IsInRange, IsKey, IsKept}
 use Rattle.resin_session.specs.Answers.{fault_of, GivesSession}
 use Rattle.resin_session.proofs.Basics.{both, from_some, none_some}
 

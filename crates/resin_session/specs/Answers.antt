@@ -1,5 +1,5 @@
 -- What the functions that read and write session texts ensure.
-use Rattle.std.specs.Prelude.{◌≡◌, ◌<◌, ◌≤◌, ℕ, Bool, true, false, length, List, Option, Some, None, Result, Ok, Err}
+use Rattle.std.specs.Prelude.{◌≡◌, ◌<◌, ◌≤◌, ℕ, true, false, length, List, Option, Some, None, Result, Ok, Err}
 use denote.Ref.{Bor}
 use Rattle.std.specs.List.{list_all}
 use Rattle.resin_value.specs.Under.lstr.Texts.{Text, LONGEST}

@@ -1,5 +1,5 @@
 -- Which array a session text keeps.
-use Rattle.std.specs.Prelude.{◌≡◌, ℕ, ℤ, ◌<◌, ◌^◌, IsTrue, Option, None}
+use Rattle.std.specs.Prelude.{◌≡◌, ℤ, ◌<◌, ◌^◌, IsTrue, None}
 use lib.Signed.{mag}
 use Rattle.std.specs.List.{fold, AllByRecursion}
 use Rattle.resin_value.specs.Under.lstr.Texts.{Text}

@@ -37,9 +37,5 @@ pub(crate) fn one_set(text: &LText) -> Option<&PSet>
 {
     let runs = text.runs();
     let count = runs.len();
-    if count == 1 {
-        Some(&runs[0].set)
-    } else {
-        None
-    }
+    if count == 1 { Some(&runs[0].set) } else { None }
 }

@@ -23,7 +23,7 @@ fn hexadecimal(b: u8) -> u8
     }
 }
 
-fn spelled(s: &[u8]) -> Spelled
+fn place_in(s: &[u8]) -> Spelled
     requires { 0 < length s.now }
 {
     match s {
@@ -58,7 +58,7 @@ pub fn text_in(alloc: Global, field: &[u8]) -> Result<LText, TextFault> {
         if skip > 0 {
             skip -= 1;
         } else {
-            match spelled(&field[i..]) {
+            match place_in(&field[i..]) {
                 Spelled::Byte(b, taken) => {
                     out = out.append_bytes(&[b], &set)?;
                     skip = taken.saturating_sub(1);
@@ -86,10 +86,12 @@ pub fn decimal_in(digits: &[u8]) -> u32 {
 
 /// So many bytes `v`.
 pub fn long_value(alloc: Global, len: u32) -> Result<LText, TextFault> {
+    let block = [b'v'; 1024];
     let mut bytes = Vec::new(alloc);
-    for _i in 0..len {
-        bytes.push(b'v').map_err(AllocError::from)?;
+    for _i in 0..len / 1024 {
+        bytes.extend_from_slice(&block)?;
     }
+    bytes.extend_from_slice(&block[..(len % 1024) as usize])?;
     LText::plain(alloc, &bytes)
 }
 

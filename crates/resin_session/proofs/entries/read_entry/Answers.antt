@@ -1,5 +1,4 @@
-use Rattle.std.proofs.Common.{◌≡◌, false, sym, ◌∙◌}
-use Rattle.std.specs.Prelude.{is_some}
+use Rattle.std.proofs.Common.{sym, ◌∙◌}
 use Rattle.resin_value.specs.Seen.{tree_of}
 use Rattle.resin_session.proofs.Pairs.{absent}
 use Rattle.resin_session.proofs.Sessions.{added}

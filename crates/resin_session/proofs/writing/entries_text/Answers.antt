@@ -1,8 +1,7 @@
-use Rattle.std.proofs.Common.{◌≡◌, sym, ap, ◌∙◌, arith}
 use Rattle.std.proofs.lemmas.Result.{err_from_is_err_and}
 use Rattle.resin_value.specs.Seen.{tree_of}
 use Rattle.resin_session.specs.Texts.{is_storable}
-use Rattle.resin_session.proofs.Written.{all_at, one_more, entry_fails, all_entries}
+use Rattle.resin_session.proofs.Written.{all_at, one_more, entry_fails}
 use Rattle.resin_session.proofs.writing.entries_text.Goals as goal
 
 pub push_entry-requires : goal.push_entry-requires
