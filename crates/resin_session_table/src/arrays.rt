@@ -88,7 +88,11 @@ pub fn many(alloc: Global, count: u32) -> Result<Arr, TextFault> {
     let mut array = Arr::new(alloc)?;
     for i in 0..count {
         let number = i64::from(i);
-        put(&mut array, &Key::Int(number), Value::Int(number, PSet::empty()))?;
+        put(
+            &mut array,
+            &Key::Int(number),
+            Value::Int(number, PSet::empty()),
+        )?;
     }
     Ok(array)
 }
