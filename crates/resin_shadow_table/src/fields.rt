@@ -21,14 +21,11 @@ pub fn bytes_in(alloc: Global, field: &str) -> Result<Vec<u8>, AllocError> {
     let mut out = Vec::new(alloc);
     let mut escape = false;
     for b in field.as_bytes() {
-        if escape {
-            out.push(escaped(*b))?;
-            escape = false;
-        } else if *b == b'\\' {
-            escape = true;
-        } else {
-            out.push(*b)?;
+        let begins = *b == b'\\' && !escape;
+        if !begins {
+            out.push(if escape { escaped(*b) } else { *b })?;
         }
+        escape = begins;
     }
     Ok(out)
 }
@@ -54,9 +51,8 @@ pub fn digits_in(alloc: Global, digits: &str) -> Result<PSet, AllocError> {
 
 fn append_piece(alloc: Global, out: Builder, piece: &str) -> Result<Builder, TextFault> {
     let (field, digits) = piece.split_once('{').unwrap_or((piece, ""));
-    let bytes = bytes_in(alloc, field)?;
     let set = digits_in(alloc, digits)?;
-    out.append_bytes(&bytes, &set)
+    out.append_bytes(&bytes_in(alloc, field)?, &set)
 }
 
 /// The labelled text that a field spells.

@@ -1,5 +1,6 @@
 //! Why a row has no answer.
 
+use resin_frozen::Stop as ReadStop;
 use resin_value::ArrFault;
 use resin_value::under::lstr::TextFault;
 use std::alloc::AllocError;
@@ -37,5 +38,14 @@ impl From<TextFault> for Stop {
 impl From<ArrFault> for Stop {
     fn from(_fault: ArrFault) -> Stop {
         Stop::Unreadable
+    }
+}
+
+impl From<ReadStop> for Stop {
+    fn from(stop: ReadStop) -> Stop {
+        match stop {
+            ReadStop::Form => Stop::Unreadable,
+            ReadStop::Memory => Stop::Memory,
+        }
     }
 }
