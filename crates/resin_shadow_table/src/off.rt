@@ -21,6 +21,7 @@ fn replaced(
 }
 
 // A shadow text of so many bytes, and how many of the texts that were made of it are read.
+#[derive(Drop)]
 struct Trial<'a> {
     alloc: Global,
     len: u64,
