@@ -32,12 +32,17 @@ pub fn bytes_in(alloc: Global, field: &str) -> Result<Vec<u8>, AllocError> {
 
 /// The integer that a field spells.
 pub fn integer_in(field: &str) -> Result<i64, Stop> {
-    field.parse::<i64>().map_err(|_| Stop::Unreadable)
+    Ok(field.parse::<i64>()?)
 }
 
-/// The number of a policy or an object.
+/// The number of bytes that a field spells.
+pub fn length_in(field: &str) -> Result<u64, Stop> {
+    Ok(field.parse::<u64>()?)
+}
+
+/// The number that a field spells: of a policy, of an object, or of a count.
 pub fn number_in(field: &str) -> Result<u32, Stop> {
-    field.parse::<u32>().map_err(|_| Stop::Unreadable)
+    Ok(field.parse::<u32>()?)
 }
 
 /// The set of the digits of a text, put together in their order.

@@ -1,5 +1,6 @@
 //! Shadow texts of many runs.
 
+use crate::fields::number_in;
 use crate::policies::policy_of;
 use crate::shadows::push_run;
 use crate::stop::Stop;
@@ -60,10 +61,9 @@ fn runs_of(
     Ok(runs)
 }
 
-// The number that a field of a row spells.
-fn number(row: &[&str], place: usize) -> Result<u32, Stop> {
-    let field = row.get(place).copied().unwrap_or("");
-    field.parse::<u32>().map_err(|_| Stop::Unreadable)
+// The number at a place of a row.
+fn number_at(row: &[&str], place: usize) -> Result<u32, Stop> {
+    number_in(row.get(place).copied().unwrap_or(""))
 }
 
 // Puts last how long the shadow text of runs is, how many runs there are, and how many are read.
@@ -84,8 +84,8 @@ fn push_counts(
 /// Puts last how long the shadow text of so many runs of one byte is, that have so many of so many policies in turn, how many runs there are, and how many are
 /// read.
 pub fn push_many(alloc: Global, out: &mut String, row: &[&str]) -> Result<(), Stop> {
-    let count = number(row, 0)?;
-    let policies = policies(alloc, number(row, 1)?)?;
-    let runs = runs_of(alloc, policies.as_slice(), count, number(row, 2)?)?;
+    let count = number_at(row, 0)?;
+    let policies = policies(alloc, number_at(row, 1)?)?;
+    let runs = runs_of(alloc, policies.as_slice(), count, number_at(row, 2)?)?;
     Ok(push_counts(alloc, out, count, &runs)?)
 }

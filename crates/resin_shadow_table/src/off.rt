@@ -1,6 +1,6 @@
 //! How many texts are read that are off a shadow text by one byte.
 
-use crate::fields::bytes_in;
+use crate::fields::{bytes_in, length_in};
 use crate::stop::Stop;
 use resin_shadow::decode;
 use std::alloc::{AllocError, Global};
@@ -80,7 +80,7 @@ fn doubled(alloc: Global, len: u64, shadow: &[u8]) -> Result<u32, AllocError> {
 
 /// Puts last how many of the texts are read that come of a shadow text of so many bytes by changing, by dropping, and by doubling one byte.
 pub fn push_off(alloc: Global, out: &mut String, len: &str, text: &str) -> Result<(), Stop> {
-    let len = len.parse::<u64>().map_err(|_| Stop::Unreadable)?;
+    let len = length_in(len)?;
     let bytes = bytes_in(alloc, text)?;
     let changed = changed(alloc, len, &bytes)?;
     let dropped = dropped(alloc, len, &bytes)?;

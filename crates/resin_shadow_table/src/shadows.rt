@@ -1,15 +1,10 @@
 //! Shadow texts.
 
-use crate::fields::{bytes_in, push_bytes};
+use crate::fields::{bytes_in, length_in, push_bytes};
 use crate::policies::policy_in;
 use crate::stop::Stop;
 use resin_shadow::{FrozenList, FrozenRun, FrozenRuns, decode, encode};
 use std::alloc::{AllocError, Global};
-
-// The number of bytes that a field spells.
-fn length_in(field: &str) -> Result<u64, Stop> {
-    field.parse::<u64>().map_err(|_| Stop::Unreadable)
-}
 
 // The policy texts that a field spells, split by spaces.
 fn texts_in(alloc: Global, field: &str) -> Result<FrozenList, Stop> {
@@ -45,13 +40,18 @@ fn runs_in(alloc: Global, row: &[&str]) -> Result<FrozenRuns, Stop> {
     Ok(runs)
 }
 
+// Puts a policy text last, between braces.
+fn push_braced(out: &mut String, text: &[u8]) -> Result<(), AllocError> {
+    out.push('{')?;
+    push_bytes(out, text)?;
+    out.push('}')
+}
+
 // Puts a run last, by its length and its texts.
 fn push_shown(out: &mut String, run: &FrozenRun) -> Result<(), AllocError> {
     write!(out, " {}", run.len)?;
     for text in run.set.as_slice() {
-        out.push('{')?;
-        push_bytes(out, text.as_slice())?;
-        out.push('}')?;
+        push_braced(out, text.as_slice())?;
     }
     Ok(())
 }
@@ -79,11 +79,17 @@ pub fn push_joined(alloc: Global, out: &mut String, row: &[&str]) -> Result<(), 
     Ok(push_runs(out, &runs_in(alloc, row)?)?)
 }
 
+// Puts runs last, if there are any.
+fn push_found(out: &mut String, found: &Option<FrozenRuns>) -> Result<(), AllocError> {
+    match found {
+        Some(runs) => push_runs(out, runs),
+        None => out.push_str(" none"),
+    }
+}
+
 /// Puts the runs of so many bytes that a shadow text spells last.
 pub fn push_decoded(alloc: Global, out: &mut String, len: &str, text: &str) -> Result<(), Stop> {
-    let found = decode(alloc, length_in(len)?, &bytes_in(alloc, text)?)?;
-    Ok(match found {
-        Some(runs) => push_runs(out, &runs)?,
-        None => out.push_str(" none")?,
-    })
+    let len = length_in(len)?;
+    let bytes = bytes_in(alloc, text)?;
+    Ok(push_found(out, &decode(alloc, len, &bytes)?)?)
 }

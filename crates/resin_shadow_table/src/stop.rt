@@ -4,6 +4,7 @@ use resin_frozen::Stop as ReadStop;
 use resin_value::ArrFault;
 use resin_value::under::lstr::TextFault;
 use std::alloc::AllocError;
+use std::num::ParseIntError;
 
 /// Why a call gives no answer.
 #[derive(Clone, Copy)]
@@ -47,5 +48,11 @@ impl From<ReadStop> for Stop {
             ReadStop::Form => Stop::Unreadable,
             ReadStop::Memory => Stop::Memory,
         }
+    }
+}
+
+impl From<ParseIntError> for Stop {
+    fn from(_error: ParseIntError) -> Stop {
+        Stop::Unreadable
     }
 }
