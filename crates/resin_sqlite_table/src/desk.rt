@@ -11,13 +11,14 @@ use std::rt::HostRuntime;
 // What tables answer, in words.
 fn answer<T: Tables>(alloc: Global, tables: &mut T, call: &Call) -> Result<String, AllocError> {
     match call {
-        Call::Create(name, columns) =>
-            show::truth(alloc, tables.create(name.as_slice(), columns)),
+        Call::Create(name, columns) => show::truth(alloc, tables.create(name.as_slice(), columns)),
         Call::Columns(name) => show::columns(alloc, tables.columns(name.as_slice())),
         Call::Rows(name) => show::rows(alloc, tables.rows(name.as_slice())),
         Call::Insert(name, cells) => show::number(alloc, tables.insert(name.as_slice(), cells)),
-        Call::Update(name, row, cells) =>
-            show::truth(alloc, tables.update(name.as_slice(), *row, cells)),
+        Call::Update(name, row, cells) => show::truth(
+            alloc,
+            tables.update(name.as_slice(), *row, cells),
+        ),
         Call::Delete(name, row) => show::truth(alloc, tables.delete(name.as_slice(), *row)),
     }
 }

@@ -55,10 +55,13 @@ fn columns_text(alloc: Global, columns: &Columns) -> Result<String, AllocError> 
 }
 
 fn fault_text(alloc: Global, fault: KeepFault) -> Result<String, AllocError> {
-    String::from_str(alloc, match fault {
-        KeepFault::Failed => "failed",
-        KeepFault::Memory => "memory",
-    })
+    String::from_str(
+        alloc,
+        match fault {
+            KeepFault::Failed => "failed",
+            KeepFault::Memory => "memory",
+        },
+    )
 }
 
 pub(crate) fn truth(alloc: Global, answer: Result<bool, KeepFault>) -> Result<String, AllocError> {
