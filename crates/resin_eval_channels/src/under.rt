@@ -2,13 +2,15 @@
 
 /// `resin_eval_functions`
 pub mod eval_functions {
-    pub use resin_eval_functions::{arguments};
+    pub use resin_eval_functions::arguments;
 }
+
 pub use resin_eval_functions::under::eval_merges;
 /// `resin_eval_writes`
 pub mod eval_writes {
     pub use resin_eval_writes::{headers, leaving, writes};
 }
+
 pub use resin_eval_writes::under::{
     base, bytes, eval_nested, items, journal, label, lstr, machine, meaning_forms, scalar,
     step_objects, step_parts, tree, value,
