@@ -1,5 +1,5 @@
 -- Cells: kinds, tests and order.
-use Rattle.std.specs.Prelude.{ℕ, ◌+◌, ◌*◌, Bool, true, false, List, slice_get, Option, Some, None}
+use Rattle.std.specs.Prelude.{ℕ, zero, suc, ◌+◌, ◌*◌, Bool, true, false, List, [], ◌∷◌, ◌++◌, slice_get, Option, Some, None}
 use Rattle.std.specs.declared.cmp.Ordering.{Ordering}
 use Rattle.std.specs.Ordering.{int_cmp, bool_cmp, is_eq, is_ne, is_lt, is_le, is_gt, is_ge}
 use Rattle.resin_base.specs.Contents.{byte_order}
@@ -72,3 +72,13 @@ value_at cells at = cell_at cells (2 * at)
 
 abbrev pub shadow_at : List Cell → ℕ → Cell
 shadow_at cells at = cell_at cells (2 * at + 1)
+
+-- so many cells of a row; those behind its end are NULL
+abbrev pub fitted : ℕ → List Cell → List Cell
+fitted zero cells = []
+fitted (suc n) [] = cell.Null ∷ fitted n []
+fitted (suc n) (c ∷ cells) = c ∷ fitted n cells
+
+-- a row of a table with so many columns, and another row behind it
+abbrev pub beside : ℕ → List Cell → List Cell → List Cell
+beside columns a b = fitted (2 * columns) a ++ b

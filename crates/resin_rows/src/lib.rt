@@ -14,14 +14,16 @@ mod conditions;
 mod names;
 mod order;
 mod refusals;
+mod row_cells;
 mod values;
 mod writes;
 
 pub use cells::{copied_or_null, fits_or_null, shadow_at, value_at};
 pub use columns::{Place, found, paired, shape};
-pub use conditions::{where_cause, where_holds};
-pub use names::{changed_names, first_named, is_repeated, names_of};
+pub use conditions::{where_cause, where_holds, where_holds_in};
+pub use names::{changed_names, first_named, is_among, is_repeated, names_of};
 pub use order::{cells_at, chosen_places, limit_places, order_places};
 pub use refusals::{earlier, name_cause, names_cause, once_cause, rows_cause, values_cause};
+pub use row_cells::RowCells;
 pub use values::split;
 pub use writes::{blank, changed};
