@@ -1,6 +1,7 @@
 //! Joins.
 
-ghost use Rattle.std.specs.Prelude.{◌≡◌, ◌++◌, ◌∷◌, [], map, list_any, IfOk, OnOk};
+ghost use Rattle.std.specs.Prelude.{◌≡◌, ◌++◌, map, IfOk, OnOk};
+ghost use Rattle.std.specs.List.{list_any};
 ghost use Rattle.resin_sql_more.specs.Joins as spec;
 ghost use Rattle.resin_sql_more.specs.Plans.{Ends, Comes, Blames, Stays};
 ghost use Rattle.resin_plan.specs.TableCalls.{keeping};

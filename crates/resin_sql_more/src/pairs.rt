@@ -82,7 +82,7 @@ fn push_pairs(
         ++ filter (spec.pair_holds statement.now values.now columns.now) (map (beside width (row_at (cells_of firsts.now) at)) (cells_of lasts.now))) }
 {
     for i in 0..lasts.len() {
-        let cells = RowCells::beside(width, cells_at(firsts, at), lasts[i].cells.as_slice());
+        let cells = RowCells::beside(width, cells_at(firsts, at), cells_at(lasts, i));
         let is = pair_holds(statement, values, columns, &cells);
         push_if(pairs, (at, i), is)?;
     }

@@ -1,0 +1,5 @@
+mod Runs
+mod Blaming
+mod Pairs
+mod Straying
+mod Kept
