@@ -1,4 +1,4 @@
-"""The joint grammar of SQL, written from its rules in docs/FORMATS.md: which texts are statements, and where the first fault of another text is.
+"""The joint grammar of SQL, written from its rules in docs/FORMATS.md and the page of resin_sql: which texts are statements, and where the first fault of another text is.
 
 A parser here is a generator: given a text and a place it yields each place at which it can end, with a value. Where it wants a byte behind the
 end of the text it notes that the text is a front. So a text is a front of a statement if it is one or a parser wanted more of it, and the fault

@@ -33,34 +33,34 @@ places_from t = column_of t >>= λ n. more_places (n.0 ∷ [], n.1)
 
 -- ---- ON
 
--- Both columns of ON, of the tables x and y, are of one side of the join of t with u. A join of a table with itself has no sides.
+-- Whether a second column of the table y is on the side of the first, p, in a join of t with u. A join of a table with itself has no sides.
 abbrev pub is_one_sided : List ℕ → List ℕ → List ℕ → List ℕ → Bool
-is_one_sided t u x y = bytes_eq x y && (bytes_eq x t || bytes_eq x u) && not (bytes_eq t u)
+is_one_sided t u p y = bytes_eq (table_of p) y && (bytes_eq (table_of p) t || bytes_eq (table_of p) u) && not (bytes_eq t u)
 
 -- Behind the `.` of the second column. One on the first's side is beyond a limit, with this `.`: it goes before any later fault.
 abbrev pub other_side : List ℕ → List ℕ → List ℕ → List ℕ → Behind (Ended (List ℕ))
-other_side t u x y = within (not (is_one_sided t u x y)) (column_of y)
+other_side t u p y = within (not (is_one_sided t u p y)) (column_of y)
 
--- the second column, from its first byte on; `x`: the first's table
+-- the second column, from its first byte on
 unfoldable pub other_from : List ℕ → List ℕ → List ℕ → ℕ → Rule (Ended (List ℕ))
-other_from t u x b = name b >>= λ y. next (λ d. d.byte == 46) (λ _. other_side t u x y)
+other_from t u p b = name b >>= λ y. next (λ d. d.byte == 46) (λ _. other_side t u p y)
 
 unfoldable pub other_place : List ℕ → List ℕ → List ℕ → Rule (Ended (List ℕ))
-other_place t u x = next (λ b. is_letter b.byte) (λ b. taken (other_from t u x b.byte))
+other_place t u p = next (λ b. is_letter b.byte) (λ b. taken (other_from t u p b.byte))
 
 -- behind ON: its two columns
 unfoldable pub equated : List ℕ → List ℕ → Bool → Rule (Ended (List ℕ × List ℕ))
-equated t u free = place free >>= λ p. sign 61 >> other_place t u (table_of p.0) >>= λ q. give ((p.0, q.0), q.1)
+equated t u free = place free >>= λ p. sign 61 >> other_place t u p.0 >>= λ q. give ((p.0, q.0), q.1)
 
 -- ---- the whole
 
 -- JOIN, the other table and ON, behind the table t
-unfoldable pub joined : Ended (List ℕ) → Rule (List ℕ × Ended (List ℕ × List ℕ))
-joined t = keyword t.1 106 (codes "oin") >>= named >>= λ u. keyword u.1 111 (codes "n") >>= equated t.0 u.0 >>= λ o. give (u.0, o)
+unfoldable pub other_table : Ended (List ℕ) → Rule (List ℕ × Ended (List ℕ × List ℕ))
+other_table t = keyword t.1 106 (codes "oin") >>= named >>= λ u. keyword u.1 111 (codes "n") >>= equated t.0 u.0 >>= λ o. give (u.0, o)
 
 -- behind the columns
 unfoldable pub join_of : Columns → Rule JoinStmt
-join_of cs = source cs.1 >>= λ t. joined t >>= λ u. chosen with_table false u.1.1 >>= λ w. limit w.1.0 >>= λ l.
+join_of cs = source cs.1 >>= λ t. other_table t >>= λ u. chosen with_table false u.1.1 >>= λ w. limit w.1.0 >>= λ l.
     give (record { columns = cs.0; table = t.0; joined = u.0; on = u.1.0; condition = w.0; limit = l })
 
 -- behind the table of the first column and its `.`

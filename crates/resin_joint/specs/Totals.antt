@@ -38,9 +38,12 @@ every = sign 42 >> give i.Count
 unfoldable pub column_in : Function → Rule TotalItem
 column_in g = named true >>= λ c. give (item_of g c.0)
 
-abbrev pub inside : Function → Rule TotalItem
-inside f.Count = every
-inside g = column_in g
+abbrev pub is_count : Function → Bool
+is_count f.Count = true
+is_count g = false
+
+unfoldable pub inside : Function → Rule TotalItem
+inside g = either (is_count g) every (column_in g)
 
 -- behind an opening bracket
 unfoldable pub bracket : Function → Rule TotalItem

@@ -90,25 +90,28 @@ fn places_from(
     more_places(alloc, bytes, names, free)
 }
 
-/// Whether both columns of ON, of these tables, are of one side of a join.
-fn is_one_sided(table: &[u8], joined: &[u8], first: &[u8], second: &[u8]) -> bool
+/// Whether a second column of a table is on the side of the first in a join.
+fn is_one_sided(table: &Bytes, joined: &Bytes, first: &Bytes, second: &Bytes) -> bool
     ensures { result ≡ spec.is_one_sided table.now joined.now first.now second.now }
 {
-    first == second && (first == table || first == joined) && table != joined
+    let side = table_of(first.as_slice());
+    side == second.as_slice()
+        && (side == table.as_slice() || side == joined.as_slice())
+        && table.as_slice() != joined.as_slice()
 }
 
 /// Behind the `.` of the second column of ON.
 fn other_side(
     alloc: Global,
     bytes: &mut ByteCursor<'_>,
-    table: &[u8],
-    joined: &[u8],
-    first: &[u8],
+    table: &Bytes,
+    joined: &Bytes,
+    first: &Bytes,
     second: Bytes,
 ) -> Result<(Bytes, bool), Fault>
     ensures { Reads (behind (spec.other_side table.now joined.now first.now second) bytes.old) result bytes.new }
 {
-    if is_one_sided(table, joined, first, second.as_slice()) {
+    if is_one_sided(table, joined, first, &second) {
         return Err(Fault::TooDeep);
     }
     column_of(alloc, bytes, second)
@@ -119,9 +122,9 @@ fn other_side(
 fn other_from(
     alloc: Global,
     bytes: &mut ByteCursor<'_>,
-    table: &[u8],
-    joined: &[u8],
-    first: &[u8],
+    table: &Bytes,
+    joined: &Bytes,
+    first: &Bytes,
     byte: u8,
 ) -> Result<(Bytes, bool), Fault>
     ensures { Reads (under (spec.other_from table.now joined.now first.now byte) bytes.old) result bytes.new }
@@ -140,9 +143,9 @@ fn other_from(
 fn other_place(
     alloc: Global,
     bytes: &mut ByteCursor<'_>,
-    table: &[u8],
-    joined: &[u8],
-    first: &[u8],
+    table: &Bytes,
+    joined: &Bytes,
+    first: &Bytes,
 ) -> Result<(Bytes, bool), Fault>
     ensures { Reads (under (spec.other_place table.now joined.now first.now) bytes.old) result bytes.new }
 {
@@ -160,32 +163,32 @@ fn other_place(
 fn equated(
     alloc: Global,
     bytes: &mut ByteCursor<'_>,
-    table: &[u8],
-    joined: &[u8],
+    table: &Bytes,
+    joined: &Bytes,
     free: bool,
 ) -> Result<((Bytes, Bytes), bool), Fault>
     ensures { Reads (under (spec.equated table.now joined.now free) bytes.old) result bytes.new }
 {
     let (first, _) = place(alloc, bytes, free)?;
     sign(bytes, b'=')?;
-    let (second, after) = other_place(alloc, bytes, table, joined, table_of(first.as_slice()))?;
+    let (second, after) = other_place(alloc, bytes, table, joined, &first)?;
     Ok(((first, second), after))
 }
 
-/// JOIN, the other table and ON.
-#[tactic(auto, unfolding(crate::specs::Joins::joined))]
-fn joined(
+/// JOIN, the other table and ON, behind the first table.
+#[tactic(auto, unfolding(crate::specs::Joins::other_table))]
+fn other_table(
     alloc: Global,
     bytes: &mut ByteCursor<'_>,
-    table: &[u8],
+    table: &Bytes,
     free: bool,
 ) -> Result<(Bytes, ((Bytes, Bytes), bool)), Fault>
-    ensures { Reads (under (spec.joined (table.now, free)) bytes.old) result bytes.new }
+    ensures { Reads (under (spec.other_table (table.now, free)) bytes.old) result bytes.new }
 {
     let free = keyword(bytes, free, b'j', b"oin")?;
     let (joined, free) = named(alloc, bytes, free)?;
     let free = keyword(bytes, free, b'o', b"n")?;
-    let on = equated(alloc, bytes, table, joined.as_slice(), free)?;
+    let on = equated(alloc, bytes, table, &joined, free)?;
     Ok((joined, on))
 }
 
@@ -200,7 +203,8 @@ fn join_of(
     ensures { Reads (under (spec.join_of (columns, free)) bytes.old) result bytes.new }
 {
     let (table, free) = source(alloc, bytes, free)?;
-    let (joined, (on, free)) = joined(alloc, bytes, table.as_slice(), free)?;
+    let (joined, equated) = other_table(alloc, bytes, &table, free)?;
+    let (on, free) = equated;
     let (condition, behind) = chosen(alloc, bytes, Naming::WithTable, false, free)?;
     let limit = limit(bytes, behind.0)?;
     Ok(JoinStmt {

@@ -68,6 +68,16 @@ fn column_in(
     Ok(item_of(function, column))
 }
 
+fn is_count(function: Function) -> bool
+    ensures { result ≡ spec.is_count function }
+{
+    match function {
+        Function::Count => true,
+        _ => false,
+    }
+}
+
+#[tactic(auto, unfolding(crate::specs::Totals::inside))]
 fn inside(
     alloc: Global,
     bytes: &mut ByteCursor<'_>,
@@ -75,9 +85,10 @@ fn inside(
 ) -> Result<TotalItem, Fault>
     ensures { Reads (under (spec.inside function) bytes.old) result bytes.new }
 {
-    match function {
-        Function::Count => every(bytes),
-        _ => column_in(alloc, bytes, function),
+    if is_count(function) {
+        every(bytes)
+    } else {
+        column_in(alloc, bytes, function)
     }
 }
 

@@ -63,9 +63,13 @@ tested column b = either (lower b == 105) (null_test column) (compared column b)
 abbrev pub Tested : Type 1
 Tested = ℕ → Rule (Ended (List ℕ))
 
--- `t.c`, behind the `.`
+-- the name of a column with its table, `t.c`
+abbrev pub dotted : List ℕ → List ℕ → List ℕ
+dotted t c = (t ++ 46 ∷ []) ++ c
+
+-- the column, behind the table and the `.`
 unfoldable pub column_of : List ℕ → Rule (Ended (List ℕ))
-column_of t = named true >>= λ c. give (t ++ 46 ∷ c.0, c.1)
+column_of t = named true >>= λ c. give (dotted t c.0, c.1)
 
 -- a column with its table, `t.c`, without blanks
 unfoldable pub with_table : Tested

@@ -8,6 +8,7 @@ use Rattle.resin_base.specs.declared.cell.Kind.{Kind}
 use Rattle.resin_base.specs.declared.cell.Kind.TheVariants as kind
 use Rattle.resin_base.specs.declared.cell.Row.{Row}
 use Rattle.resin_base.specs.declared.stored.StoredCell.{StoredCell}
+use Rattle.resin_sql.specs.Conditions.{dotted}
 use Rattle.resin_sql.specs.declared.fault.SqlRefusal.{SqlRefusal}
 use Rattle.resin_sql.specs.declared.fault.SqlRefusal.TheVariants.{SameTable, NoTable, NoColumn, WrongKind}
 use Rattle.resin_sql.specs.declared.tree.Comparison.TheVariants.{Equal}
@@ -29,7 +30,7 @@ use Rattle.resin_sql_more.specs.declared.answer.MoreAnswer.{MoreAnswer}
 -- ---- the columns of both tables, each named with its table
 
 abbrev pub of_table : List ℕ → Column → Column
-of_table table column = record { name = table ++ 46 ∷ column.name; kind = column.kind }
+of_table table column = record { name = dotted table column.name; kind = column.kind }
 
 abbrev pub both_columns : JoinStmt → List Column → List Column → List Column
 both_columns s ts us = map (of_table s.table) ts ++ map (of_table s.joined) us

@@ -26,7 +26,7 @@ use Rattle.resin_sql_more.specs.declared.answer.MoreAnswer.{MoreAnswer}
 
 -- `FUNCTION(c)`, as an item is named in the answer
 abbrev pub called : List ℕ → List ℕ → List ℕ
-called function column = function ++ 40 ∷ column ++ 41 ∷ []
+called function column = ((function ++ 40 ∷ []) ++ column) ++ 41 ∷ []
 
 abbrev pub item_name : TotalItem → List ℕ
 item_name i.Count = codes "COUNT(*)"
