@@ -1,5 +1,5 @@
 -- Cells: kinds, tests and order.
-use Rattle.std.specs.Prelude.{ℕ, zero, suc, ◌+◌, ◌*◌, Bool, true, false, List, [], ◌∷◌, ◌++◌, slice_get, Option, Some, None}
+use Rattle.std.specs.Prelude.{ℕ, zero, suc, ◌+◌, ◌*◌, Bool, true, false, ◌&&◌, List, [], ◌∷◌, ◌++◌, slice_get, Option, Some, None}
 use Rattle.std.specs.declared.cmp.Ordering.{Ordering}
 use Rattle.std.specs.Ordering.{int_cmp, bool_cmp, is_eq, is_ne, is_lt, is_le, is_gt, is_ge}
 use Rattle.resin_base.specs.Contents.{byte_order}
@@ -46,6 +46,10 @@ allows_some op (Some o) = allows op o
 -- a test of a cell against a value; with NULL, and with a cell of another kind, it is false
 abbrev pub meets : Comparison → Cell → Cell → Bool
 meets op a b = allows_some op (compared a b)
+
+-- two values of this kind that are equal
+abbrev pub are_equal : Kind → Cell → Cell → Bool
+are_equal k a b = is_of_kind k a && meets Equal a b
 
 -- `IS NULL`, and `IS NOT NULL` where it is negated; both are false of a cell of another kind than its column's
 abbrev pub meets_null : Bool → Kind → Cell → Bool

@@ -4,21 +4,18 @@ use Rattle.std.specs.List.{list_any}
 use Rattle.std.specs.Str.{bytes_eq}
 use Rattle.resin_base.specs.declared.cell.Cell.{Cell}
 use Rattle.resin_base.specs.declared.cell.Column.{Column}
-use Rattle.resin_base.specs.declared.cell.Kind.{Kind}
-use Rattle.resin_base.specs.declared.cell.Kind.TheVariants as kind
 use Rattle.resin_base.specs.declared.cell.Row.{Row}
 use Rattle.resin_base.specs.declared.stored.StoredCell.{StoredCell}
 use Rattle.resin_sql.specs.Conditions.{dotted}
 use Rattle.resin_sql.specs.declared.fault.SqlRefusal.{SqlRefusal}
 use Rattle.resin_sql.specs.declared.fault.SqlRefusal.TheVariants.{SameTable, NoTable, NoColumn, WrongKind}
-use Rattle.resin_sql.specs.declared.tree.Comparison.TheVariants.{Equal}
 use Rattle.resin_sql.specs.declared.tree.Condition.{Condition, Condition-F, fold-Condition}
 use Rattle.resin_sql.specs.declared.tree.Test.TheVariants.{Compare, Null}
 use Rattle.resin_joint.specs.Joins.{table_of}
 use Rattle.resin_joint.specs.declared.tree.JoinStmt.{JoinStmt}
 use Rattle.resin_rows.specs.declared.columns.Place.{Place}
-use Rattle.resin_rows.specs.Cells.{is_of_kind, meets, value_at, beside}
-use Rattle.resin_rows.specs.Columns.{found, first_named, shape}
+use Rattle.resin_rows.specs.Cells.{are_equal, value_at, beside}
+use Rattle.resin_rows.specs.Columns.{found, first_named, is_text, shape}
 use Rattle.resin_rows.specs.Conditions.{where_holds, where_cause}
 use Rattle.resin_rows.specs.Refusals.{earlier, names_cause}
 use Rattle.resin_rows.specs.Rows.{cells_of, row_at, limited, answered_row}
@@ -61,15 +58,11 @@ some_stray s = list_any (strays s) s.columns || strays s s.on.0 || strays s s.on
 abbrev pub table_cause : JoinStmt → Option SqlRefusal
 table_cause s = if some_stray s then Some NoTable else None
 
-abbrev pub is_text : Kind → Bool
-is_text kind.Text = true
-is_text kind.Integer = false
-
 -- ON between kinds
 abbrev pub on_cause : Option Place → Option Place → Option SqlRefusal
 on_cause None q = None
 on_cause (Some p) None = None
-on_cause (Some p) (Some q) = if is_text p.kind then (if is_text q.kind then None else Some WrongKind) else (if is_text q.kind then Some WrongKind else None)
+on_cause (Some p) (Some q) = if (is_text p.kind && not (is_text q.kind)) || (not (is_text p.kind) && is_text q.kind) then Some WrongKind else None
 
 -- the columns of ON
 abbrev pub equated_cause : List Column → List ℕ → List ℕ → Option SqlRefusal
@@ -88,7 +81,7 @@ join_cause s vs columns =
 abbrev pub equal_at : List Cell → Option Place → Option Place → Bool
 equal_at cells None q = false
 equal_at cells (Some p) None = false
-equal_at cells (Some p) (Some q) = is_of_kind p.kind (value_at cells p.at) && meets Equal (value_at cells p.at) (value_at cells q.at)
+equal_at cells (Some p) (Some q) = are_equal p.kind (value_at cells p.at) (value_at cells q.at)
 
 -- whether a pair is chosen
 abbrev pub pair_holds : JoinStmt → List StoredCell → List Column → List Cell → Bool

@@ -1,14 +1,13 @@
 //! The items of a total: their names, why they are refused, and their cells.
 
-ghost use Rattle.std.specs.Prelude.{◌≡◌, ◌++◌, ◌∷◌, [], map, not, IfOk, OnOk, if◌then◌else◌};
-ghost use Rattle.std.specs.Option.{option_copied};
+ghost use Rattle.std.specs.Prelude.{◌≡◌, ◌++◌, ◌∷◌, [], Some, map, not, IfOk, OnOk, if◌then◌else◌};
 ghost use Rattle.resin_rows.specs.Rows.{cells_of, row_at};
 ghost use Rattle.resin_sql_more.specs.Totals as spec;
 
-use resin_base::{Bytes, Cell, Column, Kind, Row, Stored, StoredCell};
+use resin_base::{Bytes, Cell, Column, Row, Stored, StoredCell};
 use resin_joint::TotalItem;
 use resin_plan::parts::answered_at;
-use resin_rows::{Place, RowCells, cells_at, earlier, found, name_cause};
+use resin_rows::{Place, RowCells, cells_at, earlier, found, is_text, name_cause};
 use resin_sql::SqlRefusal;
 use std::alloc::{AllocError, Global};
 
@@ -33,28 +32,6 @@ pub(crate) fn item_name(alloc: Global, item: &TotalItem) -> Result<Bytes, AllocE
         TotalItem::Min(column) => called(alloc, b"MIN", column.as_slice()),
         TotalItem::Max(column) => called(alloc, b"MAX", column.as_slice()),
         TotalItem::GroupConcat(column) => called(alloc, b"GROUP_CONCAT", column.as_slice()),
-    }
-}
-
-/// The column that an item is a value of.
-pub(crate) fn item_column(item: &TotalItem) -> Option<&Bytes>
-    ensures { option_copied result ≡ spec.item_column item.now }
-{
-    match item {
-        TotalItem::Count => None,
-        TotalItem::Sum(column) => Some(column),
-        TotalItem::Min(column) => Some(column),
-        TotalItem::Max(column) => Some(column),
-        TotalItem::GroupConcat(column) => Some(column),
-    }
-}
-
-fn is_text(kind: Kind) -> bool
-    ensures { result ≡ spec.is_text kind }
-{
-    match kind {
-        Kind::Text => true,
-        Kind::Integer => false,
     }
 }
 
@@ -118,14 +95,14 @@ fn push_cell(row: &mut Stored, cell: StoredCell) -> Result<(), AllocError>
 fn cells_of_column(
     alloc: Global,
     columns: &[Column],
-    column: &[u8],
+    column: &Bytes,
     rows: &[Row],
     places: &[usize],
 ) -> Result<Stored, AllocError>
     ensures { IfOk result (λ cells. cells ≡ spec.column_cells columns.now (map (row_at (cells_of rows.now)) places.now) (Some column.now)) }
 {
     let mut cells = Stored::new(alloc);
-    let place = found(columns, column);
+    let place = found(columns, column.as_slice());
     for at in places {
         let cell = answered_at(alloc, &RowCells::one(cells_at(rows, *at)), place)?;
         push_cell(&mut cells, cell)?;
@@ -143,8 +120,11 @@ pub(crate) fn item_cells(
 ) -> Result<Stored, AllocError>
     ensures { IfOk result (λ cells. cells ≡ spec.column_cells columns.now (map (row_at (cells_of rows.now)) places.now) (spec.item_column item.now)) }
 {
-    match item_column(item) {
-        None => Ok(Stored::new(alloc)),
-        Some(column) => cells_of_column(alloc, columns, column.as_slice(), rows, places),
+    match item {
+        TotalItem::Count => Ok(Stored::new(alloc)),
+        TotalItem::Sum(column) => cells_of_column(alloc, columns, column, rows, places),
+        TotalItem::Min(column) => cells_of_column(alloc, columns, column, rows, places),
+        TotalItem::Max(column) => cells_of_column(alloc, columns, column, rows, places),
+        TotalItem::GroupConcat(column) => cells_of_column(alloc, columns, column, rows, places),
     }
 }

@@ -8,10 +8,10 @@ ghost use Rattle.resin_plan.specs.TableCalls.{keeping};
 
 use crate::answer::MoreAnswer;
 use crate::pairs::{answered_pairs, limited_places};
-use resin_base::{Bytes, Calls, Column, Columns, Kind, Row, Stored, StoredCell, Tables};
+use resin_base::{Bytes, Calls, Column, Columns, Row, Stored, StoredCell, Tables};
 use resin_joint::{JoinStmt, table_of};
 use resin_plan::parts::{table_columns, table_rows};
-use resin_rows::{Place, earlier, first_named, found, names_cause, shape, where_cause};
+use resin_rows::{Place, earlier, first_named, found, is_text, names_cause, shape, where_cause};
 use resin_sql::{Condition, SqlRefusal, SqlStop, Test};
 use std::alloc::{AllocError, Global};
 
@@ -35,7 +35,7 @@ fn some_name_strays(statement: &JoinStmt, names: &[Bytes]) -> bool
 }
 
 /// Whether a column of a condition strays.
-#[cycle(strays)]
+#[cycle(straying)]
 fn condition_strays(statement: &JoinStmt, condition: &Condition) -> bool
     ensures { result ≡ spec.condition_strays statement.now condition.now }
 {
@@ -47,15 +47,16 @@ fn condition_strays(statement: &JoinStmt, condition: &Condition) -> bool
     }
 }
 
-#[cycle(strays)]
+#[cycle(straying)]
 fn some_part_strays(statement: &JoinStmt, parts: &[Condition]) -> bool
     ensures { result ≡ list_any (spec.condition_strays statement.now) parts.now }
 {
-    let mut some = false;
     for part in parts {
-        some = condition_strays(statement, part) || some;
+        if condition_strays(statement, part) {
+            return true;
+        }
     }
-    some
+    false
 }
 
 fn where_strays(statement: &JoinStmt) -> bool
@@ -82,21 +83,15 @@ fn table_cause(statement: &JoinStmt) -> Option<SqlRefusal>
     }
 }
 
-fn is_text(kind: Kind) -> bool
-    ensures { result ≡ spec.is_text kind }
-{
-    match kind {
-        Kind::Text => true,
-        Kind::Integer => false,
-    }
-}
-
 /// Refused where the columns of ON are of two kinds.
 fn on_cause(first: Option<Place>, last: Option<Place>) -> Option<SqlRefusal>
     ensures { result ≡ spec.on_cause first last }
 {
     match (first, last) {
-        (Some(first), Some(last)) if is_text(first.kind) != is_text(last.kind) => {
+        (Some(first), Some(last))
+            if (is_text(first.kind) && !is_text(last.kind))
+                || (!is_text(first.kind) && is_text(last.kind)) =>
+        {
             Some(SqlRefusal::WrongKind)
         }
         _ => None,
@@ -288,7 +283,10 @@ fn join_on<T: Tables>(
     ensures { Ends (spec.join_on statement.now values.now left firsts lasts) (keeping (T.stored tables.old) (T.faults tables.old) (T.answers tables.old) calls.old) result
         (keeping (T.stored tables.new) (T.faults tables.new) (T.answers tables.new) calls.new) }
 {
-    let (Some(firsts), Some(lasts)) = (firsts, lasts) else {
+    let Some(firsts) = firsts else {
+        return Err(SqlStop::Refused(SqlRefusal::NoTable));
+    };
+    let Some(lasts) = lasts else {
         return Err(SqlStop::Refused(SqlRefusal::NoTable));
     };
     join_rows(

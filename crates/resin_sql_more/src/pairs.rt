@@ -1,27 +1,15 @@
 //! Pairs of rows: which are chosen, and what of them is answered.
 
-ghost use Rattle.std.specs.Prelude.{◌≡◌, ◌++◌, ◌∷◌, [], ◌&&◌, map, filter, IfOk, OnOk, if◌then◌else◌};
-ghost use Rattle.resin_rows.specs.Cells.{beside, is_of_kind, meets};
+ghost use Rattle.std.specs.Prelude.{◌≡◌, ◌++◌, ◌∷◌, [], map, filter, IfOk, OnOk, if◌then◌else◌};
+ghost use Rattle.resin_rows.specs.Cells.{beside};
 ghost use Rattle.resin_rows.specs.Rows.{cells_of, row_at, limited, answered_row};
-ghost use Rattle.resin_sql.specs.declared.tree.Comparison.TheVariants.{Equal};
 ghost use Rattle.resin_sql_more.specs.Joins as spec;
 
-use resin_base::{Bytes, Cell, Column, Kind, Row, StoredCell, StoredRows};
+use resin_base::{Bytes, Column, Row, StoredCell, StoredRows};
 use resin_joint::JoinStmt;
 use resin_plan::parts::answered_row;
-use resin_rows::{Place, RowCells, cells_at, found, where_holds_in};
+use resin_rows::{Place, RowCells, cells_at, equal_or_null, found, where_holds_in};
 use std::alloc::{AllocError, Global};
-
-/// Whether two cells have values of a kind that are equal.
-fn are_equal(kind: Kind, first: &Cell, last: &Cell) -> bool
-    ensures { result ≡ (is_of_kind kind first.now && meets Equal first.now last.now) }
-{
-    match (kind, first, last) {
-        (Kind::Integer, Cell::Int(a), Cell::Int(b)) => *a == *b,
-        (Kind::Text, Cell::Text(a), Cell::Text(b)) => a.as_slice() == b.as_slice(),
-        _ => false,
-    }
-}
 
 /// Whether the cells of ON are equal in a pair.
 fn equal_at(cells: &RowCells<'_>, first: Option<Place>, last: Option<Place>) -> bool
@@ -29,10 +17,7 @@ fn equal_at(cells: &RowCells<'_>, first: Option<Place>, last: Option<Place>) -> 
 {
     match (first, last) {
         (Some(first), Some(last)) => {
-            match (cells.value_at(first.at), cells.value_at(last.at)) {
-                (Some(a), Some(b)) => are_equal(first.kind, a, b),
-                _ => false,
-            }
+            equal_or_null(first.kind, cells.value_at(first.at), cells.value_at(last.at))
         }
         _ => false,
     }

@@ -112,15 +112,17 @@ fn push_statement(
     match read_more(alloc, &text) {
         Ok(MoreStmt::Join(join)) => {
             let cells = stored(alloc, &text, &join.condition)?;
-            let Shelf { left, tables, calls, .. } = shelf;
-            push_answer(out, &exec_join(alloc, &join, &cells, *left, tables, calls))?;
-            push_numbers(out, calls)
+            let left = shelf.left;
+            let answer = exec_join(alloc, &join, &cells, left, &mut shelf.tables, &mut shelf.calls);
+            push_answer(out, &answer)?;
+            push_numbers(out, &shelf.calls)
         }
         Ok(MoreStmt::Total(total)) => {
             let cells = stored(alloc, &text, &total.condition)?;
-            let Shelf { left, tables, calls, .. } = shelf;
-            push_answer(out, &exec_total(alloc, &total, &cells, *left, tables, calls))?;
-            push_numbers(out, calls)
+            let left = shelf.left;
+            let answer = exec_total(alloc, &total, &cells, left, &mut shelf.tables, &mut shelf.calls);
+            push_answer(out, &answer)?;
+            push_numbers(out, &shelf.calls)
         }
         Ok(MoreStmt::Plain(_)) => out.push_str("plain"),
         Err(SqlFault::Bad { offset }) => write!(out, "syntax at {offset}"),
