@@ -3,3 +3,4 @@ mod Blaming
 mod Pairs
 mod Straying
 mod Kept
+mod Staying

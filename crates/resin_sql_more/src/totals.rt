@@ -174,6 +174,8 @@ pub fn exec_total<T: Tables>(
         (keeping (T.stored tables.new) (T.faults tables.new) (T.answers tables.new) calls.new) }
     ensures cause { Blames result (keeping (T.stored tables.old) (T.faults tables.old) (T.answers tables.old) calls.old)
         (keeping (T.stored tables.new) (T.faults tables.new) (T.answers tables.new) calls.new) }
+    ensures same { Stays (keeping (T.stored tables.old) (T.faults tables.old) (T.answers tables.old) calls.old)
+        (keeping (T.stored tables.new) (T.faults tables.new) (T.answers tables.new) calls.new) }
 {
     carry_out(alloc, statement, cells.as_slice(), left, tables, calls)
 }
