@@ -78,11 +78,7 @@ fn is_count(function: Function) -> bool
 }
 
 #[tactic(auto, unfolding(crate::specs::Totals::inside))]
-fn inside(
-    alloc: Global,
-    bytes: &mut ByteCursor<'_>,
-    function: Function,
-) -> Result<TotalItem, Fault>
+fn inside(alloc: Global, bytes: &mut ByteCursor<'_>, function: Function) -> Result<TotalItem, Fault>
     ensures { Reads (under (spec.inside function) bytes.old) result bytes.new }
 {
     if is_count(function) {
@@ -168,11 +164,7 @@ fn function(bytes: &mut ByteCursor<'_>) -> Result<Function, Fault>
 
 /// The bracket directly behind a function.
 #[tactic(auto, unfolding(crate::specs::Totals::opened))]
-fn opened(
-    alloc: Global,
-    bytes: &mut ByteCursor<'_>,
-    function: Function,
-) -> Result<TotalItem, Fault>
+fn opened(alloc: Global, bytes: &mut ByteCursor<'_>, function: Function) -> Result<TotalItem, Fault>
     ensures { Reads (under (spec.opened function) bytes.old) result bytes.new }
 {
     match bytes.peek() {

@@ -67,7 +67,12 @@ fn answered_rows(
 {
     let mut answer = StoredRows::new(alloc);
     for place in places {
-        let row = answered_row(alloc, columns, names, &RowCells::one(cells_at(rows, *place)))?;
+        let row = answered_row(
+            alloc,
+            columns,
+            names,
+            &RowCells::one(cells_at(rows, *place)),
+        )?;
         answer.push(row)?;
     }
     Ok(answer)

@@ -90,10 +90,7 @@ fn on_cause(first: Option<Place>, last: Option<Place>) -> Option<SqlRefusal>
     match (first, last) {
         (Some(first), Some(last))
             if (is_text(first.kind) && !is_text(last.kind))
-                || (!is_text(first.kind) && is_text(last.kind)) =>
-        {
-            Some(SqlRefusal::WrongKind)
-        }
+                || (!is_text(first.kind) && is_text(last.kind)) => { Some(SqlRefusal::WrongKind) }
         _ => None,
     }
 }
@@ -110,11 +107,7 @@ fn equated_cause(columns: &[Column], first: &[u8], last: &[u8]) -> Option<SqlRef
 }
 
 /// Why a join is refused, by the columns of both tables.
-fn join_cause(
-    statement: &JoinStmt,
-    values: &[StoredCell],
-    columns: &[Column],
-) -> Option<SqlRefusal>
+fn join_cause(statement: &JoinStmt, values: &[StoredCell], columns: &[Column]) -> Option<SqlRefusal>
     ensures { result ≡ spec.join_cause statement.now values.now columns.now }
 {
     let first = statement.on.0.as_slice();
@@ -257,10 +250,7 @@ fn join_rows<T: Tables>(
 }
 
 /// The columns that a keeper gave of a table, without those that hold shadows, if they are of this project's shape.
-pub(crate) fn shape_of(
-    alloc: Global,
-    kept: Option<Columns>,
-) -> Result<Option<Columns>, AllocError>
+pub(crate) fn shape_of(alloc: Global, kept: Option<Columns>) -> Result<Option<Columns>, AllocError>
     ensures { IfOk result (λ columns. columns ≡ spec.shape_of kept) }
 {
     match kept {
@@ -319,9 +309,7 @@ fn carry_out<T: Tables>(
     let others = table_columns(tables, calls, statement.joined.as_slice())?;
     let firsts = shape_of(alloc, kept)?;
     let lasts = shape_of(alloc, others)?;
-    join_on(
-        alloc, statement, values, left, firsts, lasts, tables, calls,
-    )
+    join_on(alloc, statement, values, left, firsts, lasts, tables, calls)
 }
 
 /// Carries out a join. `cells` has the value of each literal of the statement, in the order in which they stand, with its shadow text; for NULL

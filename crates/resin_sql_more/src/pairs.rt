@@ -17,7 +17,11 @@ fn equal_at(cells: &RowCells<'_>, first: Option<Place>, last: Option<Place>) -> 
 {
     match (first, last) {
         (Some(first), Some(last)) => {
-            equal_or_null(first.kind, cells.value_at(first.at), cells.value_at(last.at))
+            equal_or_null(
+                first.kind,
+                cells.value_at(first.at),
+                cells.value_at(last.at),
+            )
         }
         _ => false,
     }
@@ -90,14 +94,7 @@ fn chosen_places(
     let mut pairs = Vec::new(alloc);
     for at in 0..firsts.len() {
         push_pairs(
-            &mut pairs,
-            statement,
-            values,
-            columns,
-            width,
-            firsts,
-            at,
-            lasts,
+            &mut pairs, statement, values, columns, width, firsts, at, lasts,
         )?;
     }
     Ok(pairs)

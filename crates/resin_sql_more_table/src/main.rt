@@ -113,14 +113,28 @@ fn push_statement(
         Ok(MoreStmt::Join(join)) => {
             let cells = stored(alloc, &text, &join.condition)?;
             let left = shelf.left;
-            let answer = exec_join(alloc, &join, &cells, left, &mut shelf.tables, &mut shelf.calls);
+            let answer = exec_join(
+                alloc,
+                &join,
+                &cells,
+                left,
+                &mut shelf.tables,
+                &mut shelf.calls,
+            );
             push_answer(out, &answer)?;
             push_numbers(out, &shelf.calls)
         }
         Ok(MoreStmt::Total(total)) => {
             let cells = stored(alloc, &text, &total.condition)?;
             let left = shelf.left;
-            let answer = exec_total(alloc, &total, &cells, left, &mut shelf.tables, &mut shelf.calls);
+            let answer = exec_total(
+                alloc,
+                &total,
+                &cells,
+                left,
+                &mut shelf.tables,
+                &mut shelf.calls,
+            );
             push_answer(out, &answer)?;
             push_numbers(out, &shelf.calls)
         }
