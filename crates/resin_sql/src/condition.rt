@@ -294,7 +294,8 @@ struct Inner<F> {
 }
 
 impl<
-    F: Fn(Global, &mut ByteCursor<'_>, Naming, bool, usize) -> Result<(Condition, bool), Fault> + Copy,
+    F: Fn(Global, &mut ByteCursor<'_>, Naming, bool, usize) -> Result<(Condition, bool), Fault>
+        + Copy,
 > Inner<F> {
     /// A test, or a condition in brackets.
     fn one(&self, bytes: &mut ByteCursor<'_>, free: bool) -> Result<(Condition, bool), Fault>
