@@ -166,6 +166,27 @@ def item_name(item):
     return "COUNT(*)" if item[0] == "COUNT" else f"{item[0]}({item[1]})"
 
 
+def item_value(function, cells, chosen):
+    """The value of an item over its cells; `?` where one of them isn't to be read."""
+    if function == "COUNT":
+        return str(chosen)
+    if any(value is None for value, _ in cells):
+        return "?"
+    if not cells:
+        return "N"
+    values = [value for value, _ in cells]
+    if function == "SUM":
+        sum = 0
+        for value in values:
+            sum += value
+            if not -(2**63) <= sum < 2**63:
+                return "overflow"
+        return str(sum)
+    if function == "GROUP_CONCAT":
+        return "'" + ",".join(str(value) for value in values)
+    return cell((min if function == "MIN" else max)(values))
+
+
 def total(text, value, keeper, left):
     _, items, t, w = value
     columns = keeper.columns(t)
@@ -190,13 +211,30 @@ def total(text, value, keeper, left):
         at = [name for name, _ in columns].index(column)
         cells = [answered(columns[at][1], rows[n][2 * at], rows[n][2 * at + 1]) for n in chosen]
         out.append([found for found in cells if found != (None, "")])
-    return shown([name for name, _ in items], out, len(rows), len(chosen)), chosen
+    values = [item_value(function, cells, len(chosen)) for (_, (function, _)), cells in zip(items, out)]
+    return shown([name for name, _ in items], out, len(rows), len(chosen)) + " = " + " ".join(values), chosen
 
 
 # ---- the same by SQLite
 
 
-def by_sqlite(text, value, tables):
+def check_values(db, value, behind, said):
+    """SQLite's values of the items against those of an answer."""
+    values = said.rsplit(" = ", 1)[1]
+    items = list(dict.fromkeys(item_name(item) for item in value[1]))
+    mine = values.split(" ")
+    assert len(mine) == len(items), said
+    for name, value in zip(items, mine):
+        try:
+            (theirs,) = db.execute(f"SELECT {name}{behind}").fetchone()
+            theirs = cell(theirs)
+        except sqlite3.OperationalError as why:
+            assert "overflow" in str(why)
+            theirs = "overflow"
+        assert value in ("?", theirs), (said, name, theirs)
+
+
+def by_sqlite(text, value, tables, said):
     """The places of the rows, or pairs, that SQLite chooses; None where a cell is of another kind than its column."""
     used = value[2:4] if value[0] == "join" else value[2:3]
     db = sqlite3.connect(":memory:")
@@ -215,6 +253,8 @@ def by_sqlite(text, value, tables):
     if value[0] == "join" and value[7] is not None:
         at = behind.upper().rindex("LIMIT")
         behind, limit = behind[:at], behind[at:]
+    if value[0] == "total":
+        check_values(db, value, behind, said)
     found = db.execute(f"SELECT {places}{behind} ORDER BY {places} {limit}").fetchall()
     return [pair if value[0] == "join" else pair[0] for pair in found]
 
@@ -256,7 +296,7 @@ def answer(line):
             continue
         try:
             said, chosen = (join if value[0] == "join" else total)(text, value, keeper, left)
-            places = by_sqlite(text, value, tables)
+            places = by_sqlite(text, value, tables, said)
             assert places is None or places == chosen, (line, places, chosen)
         except Refused as why:
             said = str(why)

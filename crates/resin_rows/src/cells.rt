@@ -63,7 +63,7 @@ fn allows(comparison: Comparison, order: Ordering) -> bool
 }
 
 /// Whether a cell meets a test against a value.
-fn meets(comparison: Comparison, cell: &Cell, value: &Cell) -> bool
+pub fn meets(comparison: Comparison, cell: &Cell, value: &Cell) -> bool
     ensures { result ≡ meets comparison cell.now value.now }
 {
     match (cell, value) {

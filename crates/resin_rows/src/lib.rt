@@ -18,7 +18,7 @@ mod row_cells;
 mod values;
 mod writes;
 
-pub use cells::{copied_or_null, equal_or_null, fits_or_null, shadow_at, value_at};
+pub use cells::{copied_or_null, equal_or_null, fits_or_null, meets, shadow_at, value_at};
 pub use columns::{Place, found, is_text, paired, shape};
 pub use conditions::{where_cause, where_holds, where_holds_in};
 pub use names::{changed_names, first_named, is_among, is_repeated, names_of};

@@ -22,8 +22,8 @@ fn called(alloc: Global, function: &[u8], column: &[u8]) -> Result<Bytes, AllocE
     Ok(name)
 }
 
-/// The name of an item in the answer.
-pub(crate) fn item_name(alloc: Global, item: &TotalItem) -> Result<Bytes, AllocError>
+/// The name of an item in the answer: its function in upper case and without blanks.
+pub fn item_name(alloc: Global, item: &TotalItem) -> Result<Bytes, AllocError>
     ensures { IfOk result (λ name. name ≡ spec.item_name item.now) }
 {
     match item {

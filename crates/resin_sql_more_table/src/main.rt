@@ -6,16 +6,18 @@
 //! - any other field is a statement. The shadow of its Kth literal is the text `sK`; that of NULL is empty.
 //!
 //! The line that is printed has an answer for each statement: its names, its rows with the shadow of each cell behind `~`, what it cost and how many rows
-//! were chosen; or why there is none. Behind `#` stand how many calls were made and the numbers of those that failed.
+//! were chosen, and for a total behind `=` the value of each item, `?` where one of its cells isn't to be read; or why there is none. Behind `#` stand how many calls were made and the numbers of those that failed.
 //!
 //! The output was made by Python's sqlite3, and by the rules alone where SQLite means something else: `tests/joint/rows.py`.
 #![tactic(auto)]
 
 mod shelf;
 mod show;
+mod values;
 
 use crate::shelf::Shelf;
 use crate::show::{push_answer, push_numbers};
+use crate::values::push_values;
 use resin_base::{Bytes, Cell, Stored, StoredCell};
 use resin_label::PSet;
 use resin_lstr::{Builder, LText, TextFault};
@@ -136,6 +138,9 @@ fn push_statement(
                 &mut shelf.calls,
             );
             push_answer(out, &answer)?;
+            if let Ok(answer) = &answer {
+                push_values(alloc, out, total.items.as_slice(), answer)?;
+            }
             push_numbers(out, &shelf.calls)
         }
         Ok(MoreStmt::Plain(_)) => out.push_str("plain"),

@@ -15,7 +15,7 @@ fn push_bytes(out: &mut String, bytes: &[u8]) -> Result<(), AllocError> {
     Ok(())
 }
 
-fn push_cell(out: &mut String, cell: &Cell) -> Result<(), AllocError> {
+pub(crate) fn push_cell(out: &mut String, cell: &Cell) -> Result<(), AllocError> {
     match cell {
         Cell::Null => out.push('N'),
         Cell::Int(n) => {
