@@ -87,7 +87,7 @@ unless-asks (Some x) rest o = tt
 
 rows-ask : (s : JoinStmt) (vs : List StoredCell) (left : ℕ) (ts us : List Column) → OnlyAsks (join_rows s vs left ts us)
 unfolding join_rows
-rows-ask s vs left ts us = unless-asks (join_cause s vs (both_columns s ts us)) _ (λ as bs. tt)
+rows-ask s vs left ts us = unless-asks (join_cause s vs (both_columns s ts us)) _ (λ firsts lasts. tt)
 
 on-asks : (s : JoinStmt) (vs : List StoredCell) (left : ℕ) (ts us : Option (List Column)) → OnlyAsks (join_on s vs left ts us)
 on-asks s vs left None us = tt

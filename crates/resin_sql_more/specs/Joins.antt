@@ -89,15 +89,15 @@ pair_holds s vs columns cells = equal_at cells (found columns s.on.0) (found col
 
 -- each row of the first table, which has so many columns, beside each of the second
 abbrev pub pairs : ℕ → List (List Cell) → List (List Cell) → List (List Cell)
-pairs columns as bs = flat_map (λ a. map (beside columns a) bs) as
+pairs columns firsts lasts = flat_map (λ a. map (beside columns a) lasts) firsts
 
 -- the pair of the rows at two places
 abbrev pub pair_at : ℕ → List (List Cell) → List (List Cell) → ℕ × ℕ → List Cell
-pair_at columns as bs p = beside columns (row_at as p.0) (row_at bs p.1)
+pair_at columns firsts lasts p = beside columns (row_at firsts p.0) (row_at lasts p.1)
 
 -- the chosen pairs, cut by LIMIT; `columns` are those of both tables, of which the first has so many
 abbrev pub chosen_pairs : JoinStmt → List StoredCell → List Column → ℕ → List Row → List Row → List (List Cell)
-chosen_pairs s vs columns width as bs = limited s.limit (filter (pair_holds s vs columns) (pairs width (cells_of as) (cells_of bs)))
+chosen_pairs s vs columns width firsts lasts = limited s.limit (filter (pair_holds s vs columns) (pairs width (cells_of firsts) (cells_of lasts)))
 
 -- ---- the answer
 
@@ -107,21 +107,21 @@ cost a b = min (a + b + a * b) (2 ^ 64 - 1)
 
 -- A column that is named twice is answered once. Columns keep their names as they were written.
 unfoldable pub join_answer : JoinStmt → List StoredCell → List Column → ℕ → List Row → List Row → MoreAnswer
-join_answer s vs columns width as bs = record {
-  scanned = cost (length as) (length bs);
+join_answer s vs columns width firsts lasts = record {
+  scanned = cost (length firsts) (length lasts);
   names = first_named s.columns;
-  rows = map (answered_row columns (first_named s.columns)) (chosen_pairs s vs columns width as bs);
-  chosen = length (chosen_pairs s vs columns width as bs);
+  rows = map (answered_row columns (first_named s.columns)) (chosen_pairs s vs columns width firsts lasts);
+  chosen = length (chosen_pairs s vs columns width firsts lasts);
 }
 
 unfoldable pub join_end : JoinStmt → List StoredCell → ℕ → List Column → ℕ → List Row → List Row → End
-join_end s vs left columns width as bs = if nat_lt left (cost (length as) (length bs)) then Costs else Answers (join_answer s vs columns width as bs)
+join_end s vs left columns width firsts lasts = if nat_lt left (cost (length firsts) (length lasts)) then Costs else Answers (join_answer s vs columns width firsts lasts)
 
 -- ---- its keeper calls: the columns of both tables, and then the rows of both
 
 abbrev pub join_over : JoinStmt → List StoredCell → ℕ → List Column → ℕ → Plan
 join_over s vs left columns width =
-    unless (join_cause s vs columns) (Ask (AskRows s.table) (λ as. Ask (AskRows s.joined) (λ bs. Done (join_end s vs left columns width as bs))))
+    unless (join_cause s vs columns) (Ask (AskRows s.table) (λ firsts. Ask (AskRows s.joined) (λ lasts. Done (join_end s vs left columns width firsts lasts))))
 
 unfoldable pub join_rows : JoinStmt → List StoredCell → ℕ → List Column → List Column → Plan
 join_rows s vs left ts us = join_over s vs left (both_columns s ts us) (length ts)
