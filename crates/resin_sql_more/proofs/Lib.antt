@@ -4,3 +4,4 @@ mod Pairs
 mod Straying
 mod Kept
 mod Staying
+mod Carried

@@ -2,6 +2,7 @@
 
 ghost use Rattle.std.specs.Prelude.{◌≡◌, ◌++◌, map, IfOk, OnOk};
 ghost use Rattle.std.specs.List.{list_any};
+ghost use Rattle.std.specs.Str.{bytes_eq};
 ghost use Rattle.resin_sql_more.specs.Joins as spec;
 ghost use Rattle.resin_sql_more.specs.Plans.{Ends, Comes, Blames, Stays};
 ghost use Rattle.resin_plan.specs.TableCalls.{keeping};
@@ -291,6 +292,13 @@ fn join_on<T: Tables>(
     )
 }
 
+/// Whether a table is joined with itself.
+fn is_same(statement: &JoinStmt) -> bool
+    ensures { result ≡ bytes_eq statement.now.table statement.now.joined }
+{
+    statement.table.as_slice() == statement.joined.as_slice()
+}
+
 fn carry_out<T: Tables>(
     alloc: Global,
     statement: &JoinStmt,
@@ -302,7 +310,7 @@ fn carry_out<T: Tables>(
     ensures { Ends (spec.join_plan statement.now values.now left) (keeping (T.stored tables.old) (T.faults tables.old) (T.answers tables.old) calls.old) result
         (keeping (T.stored tables.new) (T.faults tables.new) (T.answers tables.new) calls.new) }
 {
-    if statement.table.as_slice() == statement.joined.as_slice() {
+    if is_same(statement) {
         return Err(SqlStop::Refused(SqlRefusal::SameTable));
     }
     let kept = table_columns(tables, calls, statement.table.as_slice())?;
