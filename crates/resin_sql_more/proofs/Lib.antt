@@ -5,3 +5,4 @@ mod Straying
 mod Kept
 mod Staying
 mod Carried
+mod Made
