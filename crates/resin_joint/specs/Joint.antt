@@ -1,6 +1,6 @@
 -- The joint grammar: the statements of resin_sql, joins and totals. A SELECT is one of the three by its first item: a column with its table
 -- is a join's, a function of cells with its bracket a total's, any other a plain SELECT's.
-use Rattle.std.specs.Prelude.{ℕ, Bool, ◌&&◌, ◌||◌, ◌==◌, List, [], ◌∷◌, codes, Option, Some, None, is_some}
+use Rattle.std.specs.Prelude.{ℕ, Bool, true, false, ◌&&◌, ◌||◌, ◌==◌, List, [], ◌∷◌, codes, Option, Some, None, is_some}
 use Rattle.resin_form.specs.Form.{give, next, maybe, taken}
 use Rattle.resin_scan.specs.Bytes.{is_letter, lower}
 use Rattle.resin_sql_words.specs.Forms.{Rule, ◌>>=◌, ◌>>◌, either, never}
