@@ -1,5 +1,5 @@
 -- The plan of a join by its first answers.
-use Rattle.std.proofs.Common.{◌≡◌, ℕ, List, Option, Bool, true, false, cond, ap}
+use Rattle.std.proofs.Common.{◌≡◌, ℕ, List, Option, true, false, cond, ap}
 use Rattle.std.specs.Str.{bytes_eq}
 use Rattle.resin_base.specs.declared.cell.Column.{Column}
 use Rattle.resin_base.specs.declared.stored.StoredCell.{StoredCell}

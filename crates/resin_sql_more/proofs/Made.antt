@@ -1,6 +1,5 @@
 -- Answers by their parts.
 use Rattle.std.proofs.Common.{◌≡◌, ℕ, List, map, length, length-map, sym, ap, ◌∙◌}
-use Rattle.resin_base.specs.declared.cell.Cell.{Cell}
 use Rattle.resin_base.specs.declared.cell.Column.{Column}
 use Rattle.resin_base.specs.declared.cell.Row.{Row}
 use Rattle.resin_base.specs.declared.stored.StoredCell.{StoredCell}

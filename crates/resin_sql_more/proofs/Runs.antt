@@ -1,5 +1,5 @@
 -- How the parts of a run make a whole.
-use Rattle.std.proofs.Common.{◌≡◌, ℕ, ◌≤◌, List, Option, Some, None, Result, Ok, Err, inl, inr, sym, ap, subst, IsErrAnd}
+use Rattle.std.proofs.Common.{◌≡◌, ℕ, ◌≤◌, List, Option, Some, None, Result, Ok, Err, inl, inr, sym, subst, IsErrAnd}
 use Rattle.std.proofs.lemmas.Result.{err_from_is_err_and}
 use Rattle.resin_base.specs.Causes.{last_count}
 use Rattle.resin_base.specs.declared.cell.Column.{Column}

@@ -1,5 +1,5 @@
 -- A run that only asks leaves the tables as they are.
-use Rattle.std.proofs.Common.{◌≡◌, ℕ, List, Bool, true, false, cond, Option, Some, None, Result, Ok, Err, refl, ◌∙◌}
+use Rattle.std.proofs.Common.{◌≡◌, ℕ, List, Bool, true, false, cond, Option, Some, None, Result, Ok, refl, ◌∙◌}
 use Rattle.std.specs.Str.{bytes_eq}
 use Rattle.resin_base.specs.Contents.{Told}
 use Rattle.resin_base.specs.TableStore.{TableStore}
@@ -12,12 +12,12 @@ use Rattle.resin_sql.specs.declared.fault.SqlRefusal.TheVariants.{SameTable}
 use Rattle.resin_sql.specs.declared.fault.SqlStop.{SqlStop}
 use Rattle.resin_joint.specs.declared.tree.JoinStmt.{JoinStmt}
 use Rattle.resin_joint.specs.declared.tree.TotalStmt.{TotalStmt}
-use Rattle.resin_plan.specs.Plans.{Steps, Done, Ask, Leads, here, behind}
+use Rattle.resin_plan.specs.Plans.{Done, Ask, Leads, here, behind}
 use Rattle.resin_plan.specs.TableCalls.{TableCall, MakeTable, AskColumns, AskRows, AddRow, SetRow, TakeRow, Answer, Changes, Keeping, IsCalled}
 use Rattle.resin_sql_more.specs.declared.answer.MoreAnswer.{MoreAnswer}
 use Rattle.resin_sql_more.specs.Plans.{Plan, Refuses, unless, Ends, answered, refused, dear, failed, spent, wanting, wanting_in_call, Stays}
-use Rattle.resin_sql_more.specs.Joins.{join_plan, join_on, join_rows, join_over, join_cause, join_end, both_columns, shape_of}
-use Rattle.resin_sql_more.specs.Totals.{total_plan, total_on, total_rows, total_cause, total_end}
+use Rattle.resin_sql_more.specs.Joins.{join_plan, join_on, join_rows, join_cause, both_columns, shape_of}
+use Rattle.resin_sql_more.specs.Totals.{total_plan, total_on, total_rows, total_cause}
 
 -- each of its calls asks for columns or rows
 abbrev pub OnlyAsks : Plan → Type 0

@@ -1,7 +1,6 @@
 -- Columns of a condition that are of neither table, by its parts.
-use Rattle.std.proofs.Common.{◌≡◌, ℕ, List, Bool, map, sym, ap, ◌∙◌}
+use Rattle.std.proofs.Common.{◌≡◌, List, Bool, map, sym, ap, ◌∙◌}
 use Rattle.std.specs.List.{list_any}
-use Rattle.resin_sql.specs.declared.tree.Comparison.{Comparison}
 use Rattle.resin_sql.specs.declared.tree.Condition.{Condition, Condition-F, fold-Condition, fold-roll-Condition}
 use Rattle.resin_sql.specs.declared.tree.Condition.TheVariants as c
 use Rattle.resin_sql.specs.declared.tree.Test.{Test}

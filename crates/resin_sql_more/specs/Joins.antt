@@ -1,5 +1,5 @@
 -- A join: the pairs of rows of two tables whose ON cells are equal and whose tests hold, by the first's row and then the second's.
-use Rattle.std.specs.Prelude.{ℕ, ◌+◌, ◌*◌, ◌-◌, ◌^◌, min, nat_lt, Bool, true, false, not, ◌&&◌, ◌||◌, List, [], ◌∷◌, ◌++◌, length, map, filter, flat_map, Option, Some, None, is_none, if◌then◌else◌}
+use Rattle.std.specs.Prelude.{ℕ, ◌+◌, ◌*◌, ◌-◌, ◌^◌, min, nat_lt, Bool, false, not, ◌&&◌, ◌||◌, List, ◌++◌, length, map, filter, flat_map, Option, Some, None, is_none, if◌then◌else◌}
 use Rattle.std.specs.List.{list_any}
 use Rattle.std.specs.Str.{bytes_eq}
 use Rattle.resin_base.specs.declared.cell.Cell.{Cell}

@@ -1,5 +1,5 @@
 -- What a join or a total comes to, and what it means that a run went along its keeper calls.
-use Rattle.std.specs.Prelude.{◌≡◌, ◌≤◌, ◌<◌, Option, Some, None, Result, Ok, Err}
+use Rattle.std.specs.Prelude.{◌≡◌, ◌≤◌, Option, Some, None, Result, Ok, Err}
 use Rattle.resin_base.specs.Causes.{last_count}
 use Rattle.resin_base.specs.Contents.{Told}
 use Rattle.resin_base.specs.declared.faults.KeepFault.TheVariants as fault

@@ -1,7 +1,7 @@
-use Rattle.std.proofs.Common.{sym, ap, ◌∙◌}
+use Rattle.std.proofs.Common.{sym, ◌∙◌}
 use Rattle.resin_sql.specs.declared.fault.SqlRefusal.TheVariants.{SameTable}
 use Rattle.resin_plan.specs.Plans.{here}
-use Rattle.resin_sql_more.specs.Joins.{join_on, shape_of}
+use Rattle.resin_sql_more.specs.Joins.{join_on}
 use Rattle.resin_sql_more.proofs.Carried.{behind_first, joined_same, joined_apart}
 use Rattle.resin_sql_more.proofs.Runs.{ends_same, refuses, columns_exit, columns_on, wanting_exit}
 use Rattle.resin_sql_more.proofs.joins.carry_out.Goals as goal
