@@ -50,7 +50,6 @@ impl<'a> RowCells<'a> {
     }
 
     /// The value of the column at a place, if the row has one.
-    #[tactic(auto, using(crate::proofs::Beside::value_in_first, crate::proofs::Beside::value_in_last))]
     pub fn value_at(&self, at: usize) -> Option<&'a Cell>
         ensures { or_null (option_copied result) ≡ value_at self.now at }
     {
@@ -62,7 +61,6 @@ impl<'a> RowCells<'a> {
     }
 
     /// The shadow of the column at a place, if the row has one.
-    #[tactic(auto, using(crate::proofs::Beside::shadow_in_first, crate::proofs::Beside::shadow_in_last))]
     pub fn shadow_at(&self, at: usize) -> Option<&'a Cell>
         ensures { or_null (option_copied result) ≡ shadow_at self.now at }
     {
