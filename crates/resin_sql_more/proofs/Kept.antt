@@ -1,10 +1,11 @@
 -- Items that are kept once.
-use Rattle.std.proofs.Common.{◌≡◌, ℕ, ◌+◌, ◌<◌, List, [], ◌∷◌, ◌++◌, length, get_or, drop, map, Bool, true, false, not, cond, ◌||◌, filter, refl, sym, ap, subst, ◌∙◌, append_assoc}
+use Rattle.std.proofs.Common.{◌≡◌, ℕ, ◌+◌, ◌≤◌, ◌<◌, List, [], ◌∷◌, ◌++◌, length, get_or, drop, map, Bool, true, false, not, cond, ◌||◌, filter, refl, sym, ap, subst, ◌∙◌, append_assoc}
+use Rattle.std.proofs.lemmas.List.{append-nil}
 use Rattle.std.specs.Str.{bytes_eq}
 use Rattle.std.specs.Cmp.Lexicographic.{bytes_decides}
 use Rattle.resin_joint.specs.declared.tree.TotalItem.{TotalItem}
 use Rattle.resin_rows.specs.Columns.{is_among}
-use Rattle.resin_rows.proofs.Lists.{front}
+use Rattle.resin_rows.proofs.Lists.{front, nothing_left}
 use Rattle.resin_sql_more.specs.Totals.{item_name, first_items}
 
 -- the items behind those whose names are kept
@@ -79,3 +80,9 @@ pub kept_turn : {B : Type 0} (g : TotalItem → B) (its : List TotalItem) (i : �
 kept_turn g its i it names next out longer all lt at n o h =
     let h' : out ++ map g (kept_with names (it ∷ drop (i + 1) its)) ≡ all = subst (λ (xs : List TotalItem). out ++ map g (kept_with names xs) ≡ all) (front its i it lt at) h in
     rw (n, o) (turned g it (drop (i + 1) its) names out all (is_among (item_name it) names) h')
+
+-- behind the last item
+pub kept_done : {B : Type 0} (g : TotalItem → B) (its : List TotalItem) (i : ℕ) (names : List (List ℕ)) (out : List B)
+    → length its ≤ i → out ++ map g (kept_with names (drop i its)) ≡ map g (kept_with [] its) → out ≡ map g (first_items its)
+kept_done g its i names out le h =
+    sym (append-nil out) ∙ (sym (ap (λ (xs : List TotalItem). out ++ map g (kept_with names xs)) (nothing_left its i le)) ∙ (h ∙ ap (map g) (kept_from_none its)))

@@ -6,3 +6,4 @@ mod Kept
 mod Staying
 mod Carried
 mod Made
+mod Causing
