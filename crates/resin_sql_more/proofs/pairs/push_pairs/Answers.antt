@@ -2,7 +2,7 @@ use Rattle.std.proofs.Common.{refl, ap, ◌∙◌}
 use Rattle.resin_rows.specs.Cells.{beside}
 use Rattle.resin_rows.specs.Rows.{cells_of, row_at}
 use Rattle.resin_sql_more.specs.Joins.{pair_at, pair_holds}
-use Rattle.resin_sql_more.proofs.Pairs.{pair_turn}
+use Rattle.resin_sql_more.proofs.Pairing.{pair_turn}
 use Rattle.resin_sql_more.proofs.pairs.push_pairs.Goals as goal
 
 pub loop-i-preserved : goal.loop-i-preserved
