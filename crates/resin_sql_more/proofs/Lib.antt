@@ -7,3 +7,4 @@ mod Staying
 mod Carried
 mod Made
 mod Causing
+mod Paying

@@ -1,5 +1,5 @@
 -- A join: the pairs of rows of two tables whose ON cells are equal and whose tests hold, by the first's row and then the second's.
-use Rattle.std.specs.Prelude.{ℕ, ◌+◌, ◌*◌, ◌-◌, ◌^◌, min, nat_lt, Bool, false, not, ◌&&◌, ◌||◌, List, ◌++◌, length, map, filter, flat_map, Option, Some, None, is_none, if◌then◌else◌}
+use Rattle.std.specs.Prelude.{ℕ, ◌+◌, ◌*◌, ◌-◌, ◌^◌, min, Bool, false, not, ◌&&◌, ◌||◌, List, ◌++◌, length, map, filter, flat_map, Option, Some, None, is_none, if◌then◌else◌}
 use Rattle.std.specs.List.{list_any}
 use Rattle.std.specs.Str.{bytes_eq}
 use Rattle.resin_base.specs.declared.cell.Cell.{Cell}
@@ -10,6 +10,7 @@ use Rattle.resin_sql.specs.Conditions.{dotted}
 use Rattle.resin_sql.specs.declared.fault.SqlRefusal.{SqlRefusal}
 use Rattle.resin_sql.specs.declared.fault.SqlRefusal.TheVariants.{SameTable, NoTable, NoColumn, WrongKind}
 use Rattle.resin_sql.specs.declared.tree.Condition.{Condition, Condition-F, fold-Condition}
+use Rattle.resin_sql.specs.declared.tree.Test.{Test}
 use Rattle.resin_sql.specs.declared.tree.Test.TheVariants.{Compare, Null}
 use Rattle.resin_joint.specs.Joins.{table_of}
 use Rattle.resin_joint.specs.declared.tree.JoinStmt.{JoinStmt}
@@ -21,7 +22,7 @@ use Rattle.resin_rows.specs.Refusals.{earlier, names_cause}
 use Rattle.resin_rows.specs.Rows.{cells_of, row_at, limited, answered_row}
 use Rattle.resin_plan.specs.Plans.{Done, Ask}
 use Rattle.resin_plan.specs.TableCalls.{AskColumns, AskRows}
-use Rattle.resin_sql_more.specs.Plans.{End, Plan, Answers, Refuses, Costs, unless}
+use Rattle.resin_sql_more.specs.Plans.{End, Plan, Refuses, unless, paid}
 use Rattle.resin_sql_more.specs.declared.answer.MoreAnswer.{MoreAnswer}
 
 -- ---- the columns of both tables, each named with its table
@@ -38,9 +39,13 @@ both_columns s ts us = map (of_table s.table) ts ++ map (of_table s.joined) us
 abbrev pub strays : JoinStmt → List ℕ → Bool
 strays s name = not (bytes_eq (table_of name) s.table || bytes_eq (table_of name) s.joined)
 
+-- the column of a test
+abbrev pub test_strays : JoinStmt → Test → Bool
+test_strays s (Compare name op literal) = strays s name
+test_strays s (Null name negated) = strays s name
+
 abbrev pub level_strays : JoinStmt → Condition-F Bool → Bool
-level_strays s (Condition-F.Test (Compare name op literal)) = strays s name
-level_strays s (Condition-F.Test (Null name negated)) = strays s name
+level_strays s (Condition-F.Test t) = test_strays s t
 level_strays s (Condition-F.All parts) = list_any (λ b. b) parts
 level_strays s (Condition-F.Any parts) = list_any (λ b. b) parts
 
@@ -115,7 +120,7 @@ join_answer s vs columns width firsts lasts = record {
 }
 
 unfoldable pub join_end : JoinStmt → List StoredCell → ℕ → List Column → ℕ → List Row → List Row → End
-join_end s vs left columns width firsts lasts = if nat_lt left (cost (length firsts) (length lasts)) then Costs else Answers (join_answer s vs columns width firsts lasts)
+join_end s vs left columns width firsts lasts = paid left (cost (length firsts) (length lasts)) (join_answer s vs columns width firsts lasts)
 
 -- ---- its keeper calls: the columns of both tables, and then the rows of both
 

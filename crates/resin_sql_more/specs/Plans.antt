@@ -1,5 +1,5 @@
 -- What a join or a total comes to, and what it means that a run went along its keeper calls.
-use Rattle.std.specs.Prelude.{◌≡◌, ◌≤◌, Option, Some, None, Result, Ok, Err}
+use Rattle.std.specs.Prelude.{◌≡◌, ℕ, ◌≤◌, nat_lt, Option, Some, None, Result, Ok, Err, if◌then◌else◌}
 use Rattle.resin_base.specs.Causes.{last_count}
 use Rattle.resin_base.specs.Contents.{Told}
 use Rattle.resin_base.specs.declared.faults.KeepFault.TheVariants as fault
@@ -17,6 +17,10 @@ pub data End : Type 0 where
   Refuses : SqlRefusal → End
   -- the rows cost more than is left
   Costs : End
+
+-- the answer, if what its rows cost is left
+abbrev pub paid : ℕ → ℕ → MoreAnswer → End
+paid left cost answer = if nat_lt left cost then Costs else Answers answer
 
 abbrev pub Plan : Type 0
 Plan = Steps End

@@ -1,5 +1,5 @@
 -- Totals: the cells of the chosen rows that each item is a value of.
-use Rattle.std.specs.Prelude.{ℕ, nat_lt, Bool, true, false, not, List, [], ◌∷◌, ◌++◌, length, map, filter, codes, Option, Some, None, if◌then◌else◌}
+use Rattle.std.specs.Prelude.{ℕ, Bool, true, false, not, List, [], ◌∷◌, ◌++◌, length, map, filter, codes, Option, Some, None, if◌then◌else◌}
 use Rattle.std.specs.Str.{bytes_eq}
 use Rattle.resin_base.specs.declared.cell.Cell.{Cell}
 use Rattle.resin_base.specs.declared.cell.Cell.TheVariants as cell
@@ -18,7 +18,7 @@ use Rattle.resin_rows.specs.Refusals.{earlier, name_cause}
 use Rattle.resin_rows.specs.Rows.{cells_of, answered_at}
 use Rattle.resin_plan.specs.Plans.{Done, Ask}
 use Rattle.resin_plan.specs.TableCalls.{AskColumns, AskRows}
-use Rattle.resin_sql_more.specs.Plans.{End, Plan, Answers, Refuses, Costs, unless}
+use Rattle.resin_sql_more.specs.Plans.{End, Plan, Refuses, unless, paid}
 use Rattle.resin_sql_more.specs.Joins.{shape_of}
 use Rattle.resin_sql_more.specs.declared.answer.MoreAnswer.{MoreAnswer}
 
@@ -97,7 +97,7 @@ total_answer s vs columns rows = record {
 }
 
 unfoldable pub total_end : TotalStmt → List StoredCell → ℕ → List Column → List Row → End
-total_end s vs left columns rows = if nat_lt left (length rows) then Costs else Answers (total_answer s vs columns rows)
+total_end s vs left columns rows = paid left (length rows) (total_answer s vs columns rows)
 
 -- ---- its keeper calls: the table's columns, and then its rows
 

@@ -35,14 +35,23 @@ fn some_name_strays(statement: &JoinStmt, names: &[Bytes]) -> bool
     false
 }
 
+/// Whether the column of a test strays.
+fn test_strays(statement: &JoinStmt, test: &Test) -> bool
+    ensures { result ≡ spec.test_strays statement.now test.now }
+{
+    match test {
+        Test::Compare(name, _, _) => strays(statement, name.as_slice()),
+        Test::Null(name, _) => strays(statement, name.as_slice()),
+    }
+}
+
 /// Whether a column of a condition strays.
 #[cycle(straying)]
 fn condition_strays(statement: &JoinStmt, condition: &Condition) -> bool
     ensures { result ≡ spec.condition_strays statement.now condition.now }
 {
     match condition {
-        Condition::Test(Test::Compare(name, _, _)) => strays(statement, name.as_slice()),
-        Condition::Test(Test::Null(name, _)) => strays(statement, name.as_slice()),
+        Condition::Test(test) => test_strays(statement, test),
         Condition::All(parts) => some_part_strays(statement, parts.as_slice()),
         Condition::Any(parts) => some_part_strays(statement, parts.as_slice()),
     }
