@@ -1,0 +1,10 @@
+mod Runs
+mod Blaming
+mod Pairing
+mod Straying
+mod Kept
+mod Staying
+mod Carried
+mod Made
+mod Causing
+mod Paying
