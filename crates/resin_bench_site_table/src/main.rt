@@ -28,12 +28,7 @@ fn cut(text: &str) -> (&str, &str) {
 }
 
 // The trace of a row.
-fn push_trace(
-    alloc: Global,
-    out: &mut String,
-    kind: &str,
-    count: &str,
-) -> Result<(), AllocError> {
+fn push_trace(alloc: Global, out: &mut String, kind: &str, count: &str) -> Result<(), AllocError> {
     let trace = sample_trace(alloc, count.parse::<u32>().unwrap_or(0))?;
     match kind {
         "text" => push_bytes(out, trace.as_slice()),

@@ -3,20 +3,28 @@ use crate::digest::push_digest;
 use resin_trace::{Connections, TraceEvent, TraceFault, TraceReader};
 use std::alloc::{AllocError, Global};
 
+// Does what a record says to the connections.
+fn take_record(connections: &mut Connections, event: TraceEvent) -> Result<(), AllocError> {
+    match event {
+        TraceEvent::Piece { conn, bytes } => connections.add(conn, bytes.as_slice()),
+        TraceEvent::End { conn } => {
+            connections.end(conn);
+            Ok(())
+        }
+    }
+}
+
 // Puts the pieces of a trace on their connections, and counts its records.
-fn sorted(
-    alloc: Global,
-    connections: &mut Connections,
-    trace: &[u8],
-) -> Result<usize, TraceFault> {
+fn sorted(alloc: Global, connections: &mut Connections, trace: &[u8]) -> Result<usize, TraceFault> {
     let mut reader = TraceReader::new(alloc);
     reader.feed(trace)?;
     let mut records = 0usize;
     for _ in 0..trace.len() {
-        match reader.next()? {
-            Some(TraceEvent::Piece { conn, bytes }) => connections.add(conn, bytes.as_slice())?,
-            Some(TraceEvent::End { conn }) => connections.end(conn),
-            None => break,
+        let Some(event) = reader.next()? else {
+            break;
+        };
+        if take_record(connections, event).is_err() {
+            return Err(TraceFault::Memory);
         }
         records = records.saturating_add(1);
     }
@@ -46,7 +54,10 @@ fn push_stream(
 ) -> Result<(), AllocError> {
     let stream = connections.stream(conn);
     let (requests, behind) = whole_requests(stream);
-    write!(out, "; on {conn} {requests} requests and {behind} bytes more, ")?;
+    write!(
+        out,
+        "; on {conn} {requests} requests and {behind} bytes more, "
+    )?;
     push_digest(alloc, out, stream)
 }
 

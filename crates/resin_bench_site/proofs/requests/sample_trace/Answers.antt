@@ -11,7 +11,7 @@ loop-k-preserved c =
 pub returns : goal.returns
 returns c =
     elim c.loop-k-test.branch [
-        else-loop-k-test w ↦ w.trace-is ∙ c.loop-k.invariant.0 ∙ ap trace_text (let e : c.loop-k.k - 1 ≡ c.args.n = omega arith in e)
-        | then-loop-k-test+in_ok-push_records+else-k-n w ↦
-            w.trace-is ∙ trace_grown c.loop-k.k c.args.n c.loop-k.trace w.push_records.new.trace c.loop-k.auto.k c.loop-k.invariant.0 w.in_ok-push_records.ensures (omega arith)
+      | else-loop-k-test w ↦ w.trace-is ∙ c.loop-k.invariant.0 ∙ ap trace_text (let e : c.loop-k.k - 1 ≡ c.args.n = omega arith in e)
+      | then-loop-k-test+in_ok-push_records+else-k-n w ↦
+          w.trace-is ∙ trace_grown c.loop-k.k c.args.n c.loop-k.trace w.push_records.new.trace c.loop-k.auto.k c.loop-k.invariant.0 w.in_ok-push_records.ensures (omega arith)
     ]
