@@ -12,6 +12,7 @@ parts_more f a (suc n) =
     ∙ ap (λ k. flat_map f (range_with_len a (suc n)) ++ f k) (let e : a + 1 + n ≡ a + suc n = omega arith in e)
 
 trace_more : (n : ℕ) → trace_text (suc n) ≡ trace_text n ++ records_for (suc n)
+unfolding trace_text
 trace_more n = parts_more records_for 1 n ∙ ap (λ k. trace_text n ++ records_for k) (let e : 1 + n ≡ suc n = omega arith in e)
 
 -- the trace up to a number, of that up to the one before

@@ -28,5 +28,5 @@ unfoldable pub records_for : ℕ → List ℕ
 records_for k = by_halves (request_text (codes "w.php") (2 * k - 1)) (request_text (codes "r.php") (2 * k - 1))
 
 -- the records for 1, 2 and so on up to n
-abbrev pub trace_text : ℕ → List ℕ
+unfoldable pub trace_text : ℕ → List ℕ
 trace_text n = flat_map records_for (range_with_len 1 n)

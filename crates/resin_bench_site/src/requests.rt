@@ -75,8 +75,9 @@ fn push_records(alloc: Global, trace: &mut Bytes, k: u32) -> Result<(), AllocErr
     push_halves(trace, writing.as_slice(), reading.as_slice())
 }
 
-/// The trace of a sample run (FORMATS.md, "The sample"): for each k from 1 to n four records, the halves of a request to `w.php` on connection 1 and those of a
-/// request to `r.php` on connection 2, by turns. So it has 2n requests; it is empty where n is 0, and has about a hundred bytes for each k.
+/// The trace of a sample run (FORMATS.md, "The sample"): for each k from 1 to n four records, the halves of a request to `w.php` on
+/// connection 1 and those of a request to `r.php` on connection 2, by turns. So it has 2n requests. It is empty where n is 0, and has
+/// about a hundred bytes for each k: 1,028,890 for 10,000.
 pub fn sample_trace(alloc: Global, n: u32) -> Result<Bytes, AllocError>
     ensures { IfOk result (λ trace. trace ≡ trace_text n) }
 {

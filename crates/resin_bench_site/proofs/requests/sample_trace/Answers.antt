@@ -4,6 +4,10 @@ use Rattle.resin_bench_site.proofs.Counting.{trace_grown}
 use Rattle.resin_bench_site.proofs.requests.sample_trace.Goals as goal
 use Rattle.resin_bench_site.proofs.requests.sample_trace.Goals.{else-loop-k-test, then-loop-k-test+in_ok-push_records+else-k-n}
 
+pub loop-k-init : goal.loop-k-init
+unfolding trace_text
+loop-k-init c = (c.new-trace.ensures, omega arith)
+
 pub loop-k-preserved : goal.loop-k-preserved
 loop-k-preserved c =
     (trace_grown c.loop-k.k _ c.loop-k.trace c.push_records.new.trace c.loop-k.auto.k c.loop-k.invariant.0 c.in_ok-push_records.ensures (omega arith), omega arith)
