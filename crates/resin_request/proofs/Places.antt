@@ -9,7 +9,7 @@ use Rattle.resin_lex.specs.declared.token.ParseFault.TheVariants as fault
 use Rattle.resin_interp.specs.Under.tree.declared.declaration.Program.{Program}
 use Rattle.resin_inputs.specs.Under.scalar.declared.faults.ScriptFault.TheVariants.{Syntax, TooDeep}
 use Rattle.resin_interp.specs.Under.machine.declared.stop.Stop.TheVariants.{Fault, Memory}
-use Rattle.resin_parse.specs.Parsed.{IsAsParsed, parsed}
+use Rattle.resin_program_grammar.specs.Parsed.{IsAsParsed, parsed}
 use Rattle.resin_interp.specs.Under.meaning.Programs.{Prog, ended, moment}
 use Rattle.resin_interp.specs.Under.meaning.Runs.{World, Does, Reached}
 use Rattle.resin_interp.proofs.meaning_lemmas.Composition.{does_nothing, does_ended, none_here}

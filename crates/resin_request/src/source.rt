@@ -2,7 +2,7 @@
 ghost use Rattle.std.specs.Prelude.{◌≡◌, ◌≤◌, IfOk, IsTrue, length};
 ghost use Rattle.resin_lex.specs.Lines.{line_of};
 ghost use Rattle.resin_inputs.specs.Under.lstr.Texts.{LONGEST};
-ghost use Rattle.resin_parse.specs.Parsed.{parsed};
+ghost use Rattle.resin_program_grammar.specs.Parsed.{parsed};
 ghost use Rattle.resin_interp.specs.Under.meaning.Runs.{Does, World};
 ghost use Rattle.resin_interp.specs.Under.eval_nested.Running.{Performs};
 ghost use Rattle.resin_interp.specs.Under.meaning_forms.Runs.{Runs};

@@ -1,18 +1,18 @@
 -- Output buffers that are open when a request's file came to its end (this project, after PHP's flush at shutdown).
 use Rattle.std.specs.Prelude.{ℕ, zero, suc, ◌==◌, List, [], ◌∷◌, ◌++◌, length, Option, Some, None, if◌then◌else◌}
-use Rattle.resin_inputs.specs.Under.lstr.Texts.{Text}
-use Rattle.resin_interp.specs.Under.journal.declared.channel.Channel.TheVariants.{Http}
-use Rattle.resin_interp.specs.Under.machine.Leaving.{close_buffer}
-use Rattle.resin_interp.specs.Under.meaning.Programs.{Prog, give, act, ◌>>=◌}
-use Rattle.resin_interp.specs.Under.meaning_forms.declared.outgoing.Outgoing.TheVariants.{Page}
-use Rattle.resin_interp.specs.Under.meaning_forms.Parts.{computed, looked}
-use Rattle.resin_interp.specs.Under.meaning_forms.Operators.{too_long}
-use Rattle.resin_interp.specs.Under.meaning_forms.Writes.{context_of, leave}
-use Rattle.resin_interp.specs.Under.meaning_forms.Programs.{evals, most_open}
+use Rattle.resin_eval_calls.specs.Under.lstr.Texts.{Text}
+use Rattle.resin_eval_calls.specs.Under.journal.declared.channel.Channel.TheVariants.{Http}
+use Rattle.resin_eval_calls.specs.Under.machine.Leaving.{close_buffer}
+use Rattle.resin_eval_calls.specs.Under.meaning.Programs.{Prog, give, act, ◌>>=◌}
+use Rattle.resin_eval_calls.specs.Under.meaning_forms.declared.outgoing.Outgoing.TheVariants.{Page}
+use Rattle.resin_eval_calls.specs.Under.meaning_forms.Parts.{computed, looked}
+use Rattle.resin_eval_calls.specs.Under.meaning_forms.Operators.{too_long}
+use Rattle.resin_eval_calls.specs.Under.meaning_forms.Writes.{context_of, leave}
+use Rattle.resin_eval_calls.specs.Under.meaning_forms.Programs.{evals, most_open}
 
 -- a text leaves as one write on `http`, while no evaluation is open
-abbrev pub leave_page : Text → Prog (Unit {0})
-leave_page t = leave (evals most_open) Page (context_of Http) t
+abbrev pub write_page : Text → Prog (Unit {0})
+write_page t = leave (evals most_open) Page (context_of Http) t
 
 -- texts of which the innermost buffer's comes first, joined from the outermost to the innermost
 abbrev pub joined_outwards : List Text → Text
@@ -31,7 +31,7 @@ close_more (suc n) ts = act close_buffer >>= λ t. close_more n (with_closed ts 
 
 -- the texts of closed buffers leave as one write
 abbrev pub leave_joined : List Text → Prog (Unit {0})
-leave_joined ts = computed (too_long (joined_outwards ts)) >>= leave_page
+leave_joined ts = computed (too_long (joined_outwards ts)) >>= write_page
 
 -- so many buffers are open
 abbrev pub end_open : ℕ → Prog (Unit {0})
