@@ -1,6 +1,7 @@
 pub mod Parts
 pub mod Operands
 pub mod Invoke
+pub mod Keeping
 pub mod Merges
 pub mod Operators
 pub mod Targets
