@@ -8,7 +8,6 @@ pub mod Targets
 pub mod Writes
 pub mod Names
 pub mod Functions
-pub mod Keeping
 pub mod Reading
 pub mod Files
 pub mod Channels
