@@ -7,6 +7,7 @@ use Rattle.resin_interp.specs.Under.journal.declared.channel.Channel.TheVariants
 use Rattle.resin_interp.specs.Under.base.declared.files.Entry.{Entry}
 use Rattle.resin_inputs.specs.Under.value.declared.value.Value.TheVariants.{Arr}
 use Rattle.resin_inputs.specs.declared.arrays.InputArrays.{InputArrays}
+use Rattle.resin_interp.specs.Under.store.Entries.{LabelledEntry, plain}
 use Rattle.resin_interp.specs.Under.scope.Chained.{chain_of}
 use Rattle.resin_interp.specs.Under.machine.State.{State}
 use Rattle.resin_interp.specs.Under.machine.Variables.{assign}
@@ -53,9 +54,9 @@ then_if_built p q = p >>= λ built. if built then q else give NotYet
 abbrev pub run_entry : Entry → Prog Bool
 run_entry e = and_if_built (thaw e) (run_source e.bytes)
 
-abbrev pub run_found : Option Entry → Prog Bool
+abbrev pub run_found : Option LabelledEntry → Prog Bool
 run_found None = give true
-run_found (Some e) = run_entry e
+run_found (Some e) = run_entry (plain e)
 
 abbrev pub run_boot : Prog Bool
 run_boot = read_file boot_path >>= run_found
@@ -71,10 +72,13 @@ serve_text path bytes = if is_script path then run_script path bytes else send_f
 abbrev pub serve_file : List ℕ → Entry → Prog Bool
 serve_file path e = and_if_built (thaw e) (serve_text path e.bytes)
 
--- the steps behind the first read
-abbrev pub serve_found : List ℕ → InputArrays → Option Entry → Prog Finish
+-- the steps behind the first read, where the file is there
+abbrev pub serve_read : List ℕ → InputArrays → Entry → Prog Finish
+serve_read path inputs e = then_if_built run_boot (then_if_built (set_inputs inputs) (then_if_built (serve_file path e) (end_buffers >> give Answered)))
+
+abbrev pub serve_found : List ℕ → InputArrays → Option LabelledEntry → Prog Finish
 serve_found path inputs None = give Missing
-serve_found path inputs (Some e) = then_if_built run_boot (then_if_built (set_inputs inputs) (then_if_built (serve_file path e) (end_buffers >> give Answered)))
+serve_found path inputs (Some e) = serve_read path inputs (plain e)
 
 -- One request for a path; where the path isn't open to requests, nothing is read. The file is read; where there is none, nothing else happens.
 -- `boot.php` runs, with empty inputs. The inputs are set. The file runs, or goes out. What open buffers hold goes out.

@@ -34,7 +34,7 @@ run_source src = read_as src (parsed src) >>= run_built
 abbrev pub and_if_built : Prog Bool → Prog Bool → Prog Bool
 and_if_built p q = p >>= λ built. if built then q else give false
 
--- labels were stored with an entry
+-- labels were stored with an entry: what a keeper holds of it has a shadow text, which is so where it is damaged, or some byte has a policy
 abbrev pub has_shadow : Entry → Bool
 has_shadow e = nat_lt 0 (length e.shadow)
 
