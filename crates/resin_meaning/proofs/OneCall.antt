@@ -24,9 +24,9 @@ use Rattle.resin_machine.specs.State.{State}
 use Rattle.resin_machine.specs.Keeping.{Tied}
 use Rattle.resin_machine.proofs.Kept.{keeps_same}
 use Rattle.resin_store.specs.Entries.{Marked, Second, AreWritten, LabelledEntry, Good, plain, lift}
-use Rattle.resin_store.specs.Files.{LabelledFiles, lift_files}
+use Rattle.resin_store.specs.Files.{LabelledFiles, lift_files, plain_files}
 use Rattle.resin_store.proofs.Lifts.{keeps_entries}
-use Rattle.resin_store.proofs.Stores.{lift_get, lift_contains, lift_remove, lift_written}
+use Rattle.resin_store.proofs.Stores.{keeps_files, lift_get, lift_contains, lift_remove, lift_written}
 use Rattle.resin_meaning.specs.Programs.{Store, Whole, KeeperCall, moment, stop, keep, called, on_files, on_tables, file_call, table_call}
 use Rattle.resin_meaning.specs.Runs.{Seen, files_seen, World, world, IsAt, Goes, NoneFailed, LastFailed, Agrees, Reached, Does, does}
 use Rattle.resin_meaning.specs.KeeperCalls.{read_file, answered_by, lifted, kept, Asks, Follows}
@@ -272,6 +272,10 @@ told_lift (Some s) (Some t) P Q k h = k s t h
 -- what a keeper holds of an entry that it answered
 pub kept_entry : (e : Entry) → plain (lift e) ≡ e
 kept_entry e = keeps_entries e
+
+-- and of all files
+pub kept_files : (s : FileStore) → plain_files (lift_files s) ≡ s
+kept_files s = keeps_files s
 
 pub read_follows : (path : List ℕ) (x y : Option FileStore) (r : Result (Option Entry) KeepFault) → Told x y (λ s t. Reads s path r t)
     → Told (option_map lift_files x) (option_map lift_files y) (λ s t. Follows (λ s. (get s path, s)) s (lifted r) t)

@@ -6,7 +6,7 @@ use Rattle.resin_request.specs.Under.base.TableStore.{TableStore}
 use Rattle.resin_request.specs.Under.meaning.Programs.{KeeperCall}
 use Rattle.resin_request.specs.Under.meaning.Programs as programs
 use Rattle.resin_request.specs.Under.meaning.Runs.{failures}
-use Rattle.resin_request.specs.Under.store.Files.{lift_files}
+use Rattle.resin_request.specs.Under.store.Files.{lift_files, plain_files}
 
 -- what the keepers hold
 abbrev pub Store : Type 0
@@ -25,6 +25,12 @@ abbrev pub store_of : Option FileStore → Option TableStore → Option Store
 store_of None tables = None
 store_of (Some files) None = None
 store_of (Some files) (Some tables) = Some (record { files = lift_files files; tables = tables })
+
+-- the keepers hold exactly what is plain of such a store
+abbrev pub TellsWhatIsHeld : Type 0
+TellsWhatIsHeld =
+    (files : Option FileStore) (tables : Option TableStore) (s : Store) → store_of files tables ≡ Some s
+    → (files ≡ Some (plain_files s.files)) × (tables ≡ Some s.tables)
 
 -- a fact of what the keepers hold, where it is told
 abbrev pub WhereTold : Option Store → (Store → Type 0) → Type 0
