@@ -1,7 +1,7 @@
 //! Runs and calls for whoever has a machine, keepers and calls of their own: they are lent to a run, and are back in their places behind the call.
 ghost use Rattle.resin_eval_calls.specs.Under.meaning_forms.Programs.{function_call, program};
 ghost use Rattle.resin_interp.specs.Lent.{lent};
-ghost use Rattle.resin_eval_calls.specs.Under.meaning.Runs.{Does, seen, world};
+ghost use Rattle.resin_eval_calls.specs.Under.meaning.Runs.{Does, files_seen, seen, world};
 ghost use Rattle.std.specs.Fn.{FnOnceReturnsAtMut};
 ghost use Rattle.std.specs.Prelude.{◌≡◌};
 
@@ -69,7 +69,7 @@ pub fn run_program<F: Files, T: Tables>(
     tables: &mut T,
     calls: &mut Calls,
 ) -> Result<Flow, Stop>
-    ensures { Does (program p.now) (world m.old (seen (F.stored files.old) (F.faults files.old) (F.answers files.old)) (seen (T.stored tables.old) (T.faults tables.old) (T.answers tables.old)) calls.old) result (world m.new (seen (F.stored files.new) (F.faults files.new) (F.answers files.new)) (seen (T.stored tables.new) (T.faults tables.new) (T.answers tables.new)) calls.new) }
+    ensures { Does (program p.now) (world m.old (files_seen (F.stored files.old) (F.faults files.old) (F.answers files.old)) (seen (T.stored tables.old) (T.faults tables.old) (T.answers tables.old)) calls.old) result (world m.new (files_seen (F.stored files.new) (F.faults files.new) (F.answers files.new)) (seen (T.stored tables.new) (T.faults tables.new) (T.answers tables.new)) calls.new) }
 {
     with_run(m, files, tables, calls, |run| perform(alloc, run, p))
 }
@@ -85,7 +85,7 @@ pub fn call_function<F: Files, T: Tables>(
     tables: &mut T,
     calls: &mut Calls,
 ) -> Result<Value, Stop>
-    ensures { Does (function_call name.now args.now) (world m.old (seen (F.stored files.old) (F.faults files.old) (F.answers files.old)) (seen (T.stored tables.old) (T.faults tables.old) (T.answers tables.old)) calls.old) result (world m.new (seen (F.stored files.new) (F.faults files.new) (F.answers files.new)) (seen (T.stored tables.new) (T.faults tables.new) (T.answers tables.new)) calls.new) }
+    ensures { Does (function_call name.now args.now) (world m.old (files_seen (F.stored files.old) (F.faults files.old) (F.answers files.old)) (seen (T.stored tables.old) (T.faults tables.old) (T.answers tables.old)) calls.old) result (world m.new (files_seen (F.stored files.new) (F.faults files.new) (F.answers files.new)) (seen (T.stored tables.new) (T.faults tables.new) (T.answers tables.new)) calls.new) }
 {
     with_run(
         m,

@@ -1,10 +1,10 @@
 //! One request.
-ghost use Rattle.std.specs.Prelude.{◌≡◌, ◌≤◌, length, Some};
+ghost use Rattle.std.specs.Prelude.{◌≡◌, ◌≤◌, length};
 ghost use Rattle.resin_inputs.specs.Under.lstr.Texts.{LONGEST};
-ghost use Rattle.resin_interp.specs.Under.meaning.Runs.{Does, seen, world};
+ghost use Rattle.resin_interp.specs.Under.meaning.Runs.{Does, files_seen, seen, world};
 ghost use Rattle.resin_interp.specs.Under.eval_nested.Running.{Performs};
 ghost use Rattle.resin_interp.specs.Under.meaning_forms.Runs.{Runs};
-ghost use Rattle.resin_request.specs.Requests.{has_filters, put_inputs, set_inputs, run_entry, run_boot, run_script, send_file, serve_text, serve_file, serve_found, request_program};
+ghost use Rattle.resin_request.specs.Requests.{has_filters, put_inputs, set_inputs, run_entry, run_boot, run_script, send_file, serve_text, serve_file, serve_read, request_program};
 
 use crate::buffers::end_buffers;
 use crate::paths::{BOOT_PATH, is_open, is_script};
@@ -157,7 +157,7 @@ fn serve_entry<F: Files, T: Tables>(
     inputs: InputArrays,
     e: &Entry,
 ) -> Result<Finish, Stop>
-    ensures { Performs F.Files T.Tables (serve_found path.now inputs (Some e.now)) run.old result run.new }
+    ensures { Performs F.Files T.Tables (serve_read path.now inputs e.now) run.old result run.new }
 {
     let boot = run_boot(alloc, run)?;
     if !boot {
@@ -215,8 +215,8 @@ pub fn run_request<F: Files, T: Tables>(
     calls: &mut Calls,
 ) -> Result<Finish, Stop>
     ensures { Does (request_program path.now inputs)
-        (world m.old (seen (F.stored files.old) (F.faults files.old) (F.answers files.old)) (seen (T.stored tables.old) (T.faults tables.old) (T.answers tables.old)) calls.old) result
-        (world m.new (seen (F.stored files.new) (F.faults files.new) (F.answers files.new)) (seen (T.stored tables.new) (T.faults tables.new) (T.answers tables.new)) calls.new) }
+        (world m.old (files_seen (F.stored files.old) (F.faults files.old) (F.answers files.old)) (seen (T.stored tables.old) (T.faults tables.old) (T.answers tables.old)) calls.old) result
+        (world m.new (files_seen (F.stored files.new) (F.faults files.new) (F.answers files.new)) (seen (T.stored tables.new) (T.faults tables.new) (T.answers tables.new)) calls.new) }
 {
     with_run(
         m,
