@@ -1,6 +1,6 @@
 -- The inputs of a request: each value passes the filters of inputs, then they are set (PHP manual, "Variables From External Sources"; filters after RESIN).
 use Rattle.std.specs.Prelude.{ℕ, ℤ, List, [], ◌∷◌, codes, Option, Some}
-use Rattle.std.specs.Str.{int_decimal}
+use Rattle.std.specs.Fmt.{signed_decimal}
 use Rattle.resin_builtin.specs.Under.lstr.Texts.{Text as LabelledText}
 use Rattle.resin_target.specs.Under.journal.declared.channel.Channel.TheVariants.{Input}
 use Rattle.resin_target.specs.Under.journal.Channels.{channel_name}
@@ -20,7 +20,7 @@ use Rattle.resin_meaning_forms.specs.Reading.{read_through}
 
 -- a key as text
 abbrev pub key_text : Key → List ℕ
-key_text (IntKey n) = int_decimal n
+key_text (IntKey n) = signed_decimal n
 key_text (TextKey b) = b
 
 -- what a filter of inputs is told: the array by its name, and the outermost key
