@@ -13,15 +13,15 @@ use Rattle.resin_meaning.specs.Programs.{Prog, ◌>>=◌}
 use Rattle.resin_meaning.specs.LeavingWrites.{ask_filters}
 use Rattle.resin_meaning_forms.specs.Parts.{Evals, looked}
 use Rattle.resin_meaning_forms.specs.Invoke.{call_object}
-use Rattle.resin_meaning_forms.specs.Writes.{plain, filter_write, text_answer}
+use Rattle.resin_meaning_forms.specs.Writes.{plain, text_answer}
 
 -- what the filters of files and of source texts are told: the channel, and the path as the script named it
 abbrev pub path_context : Channel → List ℕ → Value
 path_context c path = Arr (put (TextKey (codes "file")) (text (plain path)) (put (TextKey (codes "type")) (text (plain (channel_name c))) empty))
 
--- a filter is asked about a text that is read
-abbrev pub filter_read : Evals → Value → ℕ → LabelledText → Prog LabelledText
-filter_read ev context f t = call_object ev f (codes "filter_read") (Text t ∷ context ∷ []) >>= text_answer
+-- a filter is asked about a text, by the name of its method
+abbrev pub filter_by : Evals → List ℕ → Value → ℕ → LabelledText → Prog LabelledText
+filter_by ev method context f t = call_object ev f method (Text t ∷ context ∷ []) >>= text_answer
 
 -- the filters of a channel are asked, as its chain stands at the begin, each about the answer of the one before
 abbrev pub pass_filters : (ℕ → LabelledText → Prog LabelledText) → Channel → LabelledText → Prog LabelledText
@@ -29,8 +29,8 @@ pass_filters filter c t = looked (λ m. chain_of c m.chains) >>= λ chain. ask_f
 
 -- a text that is read on a channel
 abbrev pub read_through : Evals → Channel → Value → LabelledText → Prog LabelledText
-read_through ev c context t = pass_filters (filter_read ev context) c t
+read_through ev c context t = pass_filters (filter_by ev (codes "filter_read") context) c t
 
 -- a text that is kept by a channel
 abbrev pub keep_through : Evals → Channel → Value → LabelledText → Prog LabelledText
-keep_through ev c context t = pass_filters (filter_write ev context) c t
+keep_through ev c context t = pass_filters (filter_by ev (codes "filter_write") context) c t
