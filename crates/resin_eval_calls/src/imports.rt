@@ -3,8 +3,8 @@ ghost use Rattle.resin_eval_channels.specs.Under.eval_nested.Nested.{Nests, mean
 ghost use Rattle.resin_eval_channels.specs.Under.eval_nested.Running.{Performs};
 ghost use Rattle.resin_eval_channels.specs.Under.lstr.Texts.{bytes_of};
 ghost use Rattle.resin_eval_channels.specs.Under.meaning_forms.Imports as imports;
-ghost use Rattle.resin_eval_channels.specs.Under.meaning_forms.Runs.{on_ok};
-ghost use Rattle.resin_store.specs.Entries.{lift};
+ghost use Rattle.resin_eval_channels.specs.Under.meaning_forms.Runs.{Runs, on_ok};
+ghost use Rattle.resin_eval_channels.specs.Under.store.Entries.{lift};
 ghost use Rattle.std.specs.Option.{option_map};
 ghost use Rattle.std.specs.Prelude.{◌≡◌};
 
@@ -17,7 +17,7 @@ use resin_eval_channels::under::heap::PreludeClass;
 use resin_eval_channels::under::journal::Channel;
 use resin_eval_channels::under::label::PSet;
 use resin_eval_channels::under::lstr::LText;
-use resin_eval_channels::under::machine::Stop;
+use resin_eval_channels::under::machine::{Machine, Stop};
 use resin_eval_channels::under::meaning_forms::Course;
 use resin_eval_channels::under::ops::to_text;
 use resin_eval_channels::under::step_keeping::thaw_entry;
@@ -59,6 +59,16 @@ fn value_of_course(course: Course) -> Value
         Course::Return(v) => v,
         Course::Next | Course::Break | Course::Continue => Value::Int(1, PSet::empty()),
     }
+}
+
+// What an import is of a file that isn't there.
+fn missing(m: &mut Machine, kind: Import) -> Result<Value, Stop>
+    ensures { Runs (imports.missing kind) m.old result m.new }
+{
+    if is_required(kind) {
+        return m.throw(PreludeClass::Error, b"");
+    }
+    Ok(Value::Bool(false))
 }
 
 impl<
@@ -107,8 +117,7 @@ impl<
     {
         match found {
             Some(e) => self.run_entry(run, path, e),
-            None if is_required(kind) => run.machine.throw(PreludeClass::Error, b""),
-            None => Ok(Value::Bool(false)),
+            None => missing(&mut run.machine, kind),
         }
     }
 

@@ -46,11 +46,14 @@ filtered_entries filter (e ∷ es) a = do
 abbrev pub as_tree : Array → Tree
 as_tree a = array (row_of a.entries) a.largest a.height
 
--- an input: a text, or an array of texts, whose values are told the key of that array
+-- the values of an array, about which the filters are told the same
+abbrev pub filtered_texts : Evals → Value → Array → Prog Array
+filtered_texts ev context a = filtered_entries (λ k t. filtered_text ev context t) a.entries a
+
+-- an input: a text, or an array of texts, about whose values the filters are told the key of that array
 abbrev pub filtered_input : Evals → List ℕ → Key → Tree → Prog Tree
 filtered_input ev name key (array r l h) =
-    filtered_entries (λ k t. filtered_text ev (input_context name (key_text key)) t) (entries_of r) (record { entries = entries_of r; largest = l; height = h })
-    >>= λ a. give (as_tree a)
+    filtered_texts ev (input_context name (key_text key)) (record { entries = entries_of r; largest = l; height = h }) >>= λ a. give (as_tree a)
 filtered_input ev name key t = filtered_text ev (input_context name (key_text key)) t
 
 abbrev pub filtered_array : Evals → List ℕ → Array → Prog Array
