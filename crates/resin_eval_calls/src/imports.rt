@@ -6,7 +6,7 @@ ghost use Rattle.resin_eval_channels.specs.Under.meaning_forms.Imports as import
 ghost use Rattle.resin_eval_channels.specs.Under.meaning_forms.Runs.{Runs, on_ok};
 ghost use Rattle.resin_eval_channels.specs.Under.store.Entries.{lift};
 ghost use Rattle.std.specs.Option.{option_map};
-ghost use Rattle.std.specs.Prelude.{◌≡◌};
+ghost use Rattle.std.specs.Prelude.{◌≡◌, ◌&&◌};
 
 use resin_eval_channels::under::base::{Entry, Files, Tables};
 use resin_eval_channels::under::bytes::lawful_path;
@@ -39,6 +39,13 @@ fn is_once(kind: Import) -> bool
         Import::IncludeOnce | Import::RequireOnce => true,
         Import::Include | Import::Require => false,
     }
+}
+
+// Whether a path is passed over, which was imported or not.
+fn passes_over(kind: Import, was: bool) -> bool
+    ensures { result ≡ (imports.is_once kind && was) }
+{
+    is_once(kind) && was
 }
 
 // Whether a file that is missing throws Error.
@@ -127,7 +134,7 @@ impl<
         ensures { Performs F.Files T.Tables (imports.run_path (means self.now.by.now) kind path.now) run.old result run.new }
     {
         let was = run.machine.is_imported(path);
-        if is_once(kind) && was {
+        if passes_over(kind, was) {
             return Ok(Value::Bool(true));
         }
         let found = run.read_file(path)?;
@@ -140,10 +147,11 @@ impl<
         ensures { Performs F.Files T.Tables (imports.import_named (means self.now.by.now) kind name.now) run.old result run.new }
     {
         run.machine.charge_bytes(name.len() as u64)?;
-        if !lawful_path(name.bytes()) {
+        let path = name.bytes();
+        if !lawful_path(path) {
             return run.machine.throw(PreludeClass::ValueError, b"");
         }
-        self.run_path(run, kind, name.bytes())
+        self.run_path(run, kind, path)
     }
 
     /// Imports the file whose path is the text of a value. It is the value that the file returns, else 1. Where the path was imported, a `_once` form is true, and
