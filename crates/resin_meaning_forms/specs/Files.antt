@@ -9,10 +9,10 @@ use Rattle.resin_builtin.specs.Under.scalar.declared.faults.ScriptFault.TheVaria
 use Rattle.resin_builtin.specs.Under.value.Trees.{Tree, boolean, integer, text}
 use Rattle.resin_target.specs.Under.heap.declared.prelude.PreludeClass.TheVariants.{ValueError}
 use Rattle.resin_store.specs.Entries.{Marked, LabelledEntry, Good, Bad}
-use Rattle.resin_meaning.specs.Programs.{Prog, give, act, ◌>>=◌}
+use Rattle.resin_meaning.specs.Programs.{Prog, give, ◌>>=◌}
 use Rattle.resin_meaning.specs.KeeperCalls.{read_file, write_file, remove_file, file_exists}
 use Rattle.resin_meaning_forms.specs.Parts.{Evals, faulted, thrown_new, ◌>>◌}
-use Rattle.resin_meaning_forms.specs.Keeping.{thawed, freeze_text}
+use Rattle.resin_meaning_forms.specs.Keeping.{thaw_entry, freeze_text}
 use Rattle.resin_meaning_forms.specs.Reading.{path_context, read_through, keep_through}
 
 -- a path that no file may have throws ValueError
@@ -25,7 +25,7 @@ at_lawful path p = if is_lawful_path path then p else thrown_new ValueError
 abbrev pub contents_of : Evals → List ℕ → Option LabelledEntry → Prog Tree
 contents_of ev path None = give (boolean false)
 contents_of ev path (Some e) = do
-  t ← act (thawed e)
+  t ← thaw_entry e
   read ← read_through ev File (path_context File path) t
   give (text read)
 

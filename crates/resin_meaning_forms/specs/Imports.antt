@@ -20,7 +20,7 @@ use Rattle.resin_meaning_forms.specs.declared.course.Course.{Course}
 use Rattle.resin_meaning_forms.specs.declared.course.Course.TheVariants.{Next, Break, Continue, Return}
 use Rattle.resin_meaning_forms.specs.Parts.{Evals, computed, thrown_new, looked, charge_text, ◌>>◌}
 use Rattle.resin_meaning_forms.specs.Files.{at_lawful}
-use Rattle.resin_meaning_forms.specs.Keeping.{thawed}
+use Rattle.resin_meaning_forms.specs.Keeping.{thaw_entry}
 use Rattle.resin_meaning_forms.specs.Reading.{path_context, read_through}
 use Rattle.resin_meaning_forms.specs.Sources.{source}
 
@@ -48,7 +48,7 @@ value_of_course Continue = Int (pos 1) no_labels
 -- the bytes of an entry as source text: thawed, and as the filters of source text give them; labels end there. The path then counts as imported
 abbrev pub code_of : Evals → List ℕ → LabelledEntry → Prog (List ℕ)
 code_of ev path e = do
-  t ← act (thawed e)
+  t ← thaw_entry e
   src ← read_through ev Code (path_context Code path) t
   act (import_path path)
   give (bytes_of src)

@@ -1,13 +1,13 @@
 pub mod Parts
 pub mod Operands
 pub mod Invoke
+pub mod Keeping
 pub mod Merges
 pub mod Operators
 pub mod Targets
 pub mod Writes
 pub mod Names
 pub mod Functions
-pub mod Keeping
 pub mod Reading
 pub mod Files
 pub mod Channels

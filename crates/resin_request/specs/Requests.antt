@@ -4,12 +4,12 @@ use Rattle.resin_inputs.specs.Under.lstr.Texts.{bytes_of}
 use Rattle.resin_interp.specs.Under.journal.declared.channel.Channel.TheVariants.{File}
 use Rattle.resin_inputs.specs.declared.arrays.InputArrays.{InputArrays}
 use Rattle.resin_interp.specs.Under.store.Entries.{LabelledEntry}
-use Rattle.resin_interp.specs.Under.meaning.Programs.{Prog, give, act, ◌>>=◌}
+use Rattle.resin_interp.specs.Under.meaning.Programs.{Prog, give, ◌>>=◌}
 use Rattle.resin_interp.specs.Under.meaning.KeeperCalls.{read_file}
 use Rattle.resin_interp.specs.Under.meaning_forms.Parts.{◌>>◌}
 use Rattle.resin_interp.specs.Under.meaning_forms.Imports.{code_of}
 use Rattle.resin_interp.specs.Under.meaning_forms.Inputs.{set_inputs}
-use Rattle.resin_interp.specs.Under.meaning_forms.Keeping.{thawed}
+use Rattle.resin_interp.specs.Under.meaning_forms.Keeping.{thaw_entry}
 use Rattle.resin_interp.specs.Under.meaning_forms.Programs.{evals, most_open}
 use Rattle.resin_interp.specs.Under.meaning_forms.Reading.{path_context, read_through}
 use Rattle.resin_interp.specs.Pages.{write_page, end_buffers}
@@ -21,7 +21,7 @@ use Rattle.resin_request.specs.Sources.{run_source}
 -- the file that runs before each request, where it is there. Its top-level `return`, or an `exit` anywhere, ends it alone
 abbrev pub run_found : Option LabelledEntry → Prog (Unit {0})
 run_found None = give tt
-run_found (Some e) = act (thawed e) >>= λ t. run_source (bytes_of t)
+run_found (Some e) = thaw_entry e >>= λ t. run_source (bytes_of t)
 
 abbrev pub run_boot : Prog (Unit {0})
 run_boot = read_file boot_path >>= run_found
@@ -36,7 +36,7 @@ run_script path e = code_of (evals most_open) path e >>= run_source
 
 -- another file passes the filters of files, and goes out as one write
 abbrev pub send_file : List ℕ → LabelledEntry → Prog (Unit {0})
-send_file path e = act (thawed e) >>= λ t. read_through (evals most_open) File (path_context File path) t >>= write_page
+send_file path e = thaw_entry e >>= λ t. read_through (evals most_open) File (path_context File path) t >>= write_page
 
 -- the file of the request, as it was read first
 abbrev pub serve_file : List ℕ → LabelledEntry → Prog (Unit {0})

@@ -12,3 +12,4 @@ pub mod Tables
 pub mod Turning
 pub mod Ending
 pub mod Finding
+pub mod Apart
