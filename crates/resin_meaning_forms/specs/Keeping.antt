@@ -1,15 +1,14 @@
 -- Policies beside stored data: what is kept of the policies of a text, and what a read makes of an entry (RESIN's persistent policies in outline; the texts,
 -- the charges and lost policies are this project's own).
-use Rattle.std.specs.Prelude.{ℕ, ◌==◌, ◌&&◌, nat_lt, not, List, [], ◌∷◌, length, map, zip, codes, Option, None, Some, if◌then◌else◌}
+use Rattle.std.specs.Prelude.{ℕ, Bool, ◌==◌, ◌&&◌, nat_lt, not, slice_index_or, List, [], ◌∷◌, ◌++◌, length, map, zip, codes, Option, None, Some, if◌then◌else◌}
 use Rattle.std.specs.Option.{option_map, option_and_then}
-use Rattle.std.specs.List.{slice_get_or}
 use Rattle.resin_builtin.specs.Under.label.Sets.{NumberSet, numbers, empty as no_labels, set_of as labels_of}
 use Rattle.resin_builtin.specs.Under.lstr.Texts.{Text as LabelledText, LONGEST, carrying}
 use Rattle.resin_builtin.specs.Under.scalar.declared.faults.ScriptFault.TheVariants.{NotStorable, TextTooLong, BadShadow}
 use Rattle.resin_builtin.specs.Under.value.declared.key.Key.{Key}
 use Rattle.resin_builtin.specs.Under.value.declared.key.Key.TheVariants.{Int as IntKey, Text as TextKey}
 use Rattle.resin_builtin.specs.Under.value.declared.value.Value.TheVariants.{Text, Arr}
-use Rattle.resin_builtin.specs.Under.value.Arrays.{EntryList}
+use Rattle.resin_builtin.specs.Under.value.Arrays.{EntryList, Array}
 use Rattle.resin_builtin.specs.Under.value.Values.{value_of}
 use Rattle.resin_target.specs.Under.heap.Classes.{find_class, is_a}
 use Rattle.resin_target.specs.Under.heap.Objects.{fields_at}
@@ -37,7 +36,7 @@ frozen_policy m o = if is_object m.heap o then frozen (class_name_of o m) (field
 -- each of some answers, or none where one is missing
 abbrev pub each_of : {A : Type 0} → List (Option A) → Option (List A)
 each_of [] = Some []
-each_of (a ∷ as) = option_and_then (λ x. option_map (λ xs. x ∷ xs) (each_of as)) a
+each_of (o ∷ os) = option_and_then (λ x. option_map (λ xs. x ∷ xs) (each_of os)) o
 
 -- the policy texts of a set of policies, where each has one; policies with one text are kept as one
 abbrev pub frozen_set : State → NumberSet → Option TextSet
@@ -57,12 +56,13 @@ freeze_text t = looked (λ m. frozen_marks m t) >>= or_not_storable
 
 -- ---- thawing: what a read makes of an entry
 
--- the class of a name, where stored policies of it can be objects of it: it is declared, under Policy, and isn't that of lost policies
-abbrev pub able_class : State → ℕ → Option ℕ
-able_class m c = if is_a m.classes c (number_of Policy) && not (c == number_of LostPolicy) then Some c else None
+-- stored policies of a class can be objects of it: it is under Policy, and isn't that of lost policies
+abbrev pub is_able : State → ℕ → Bool
+is_able m c = is_a m.classes c (number_of Policy) && not (c == number_of LostPolicy)
 
+-- the class of a name, where it is declared and stored policies of it can be its objects
 abbrev pub policy_class : List ℕ → State → Option ℕ
-policy_class name m = option_and_then (able_class m) (find_class m.classes name)
+policy_class name m = option_and_then (λ c. if is_able m c then Some c else None) (find_class m.classes name)
 
 -- the name of a field by its key
 abbrev pub name_in : Key → List ℕ
@@ -74,17 +74,25 @@ abbrev pub set_fields : ℕ → EntryList → Prog (Unit {0})
 set_fields o [] = give tt
 set_fields o (e ∷ es) = act (set_field o (name_in e.0) (value_of e.1)) >> set_fields o es
 
--- an object for a class and fields that were kept, without a constructor: of that class with these fields, or a lost policy that keeps the name and the fields
-abbrev pub remade : Said → Option ℕ → Prog ℕ
-remade p (Some class) = do
+-- an object of a class with fields, without a constructor
+abbrev pub make_policy : ℕ → EntryList → Prog ℕ
+make_policy class fields = do
   o ← act (make_object class)
-  _ ← set_fields o p.1.entries
+  _ ← set_fields o fields
   give o
-remade p None = do
+
+-- a lost policy, which keeps the name of a class, and fields
+abbrev pub make_lost : List ℕ → Array → Prog ℕ
+make_lost name fields = do
   o ← act (make_object (number_of LostPolicy))
-  _ ← act (set_field o (codes "of") (Text (carrying no_labels p.0)))
-  _ ← act (set_field o (codes "fields") (Arr p.1))
+  _ ← act (set_field o (codes "of") (Text (carrying no_labels name)))
+  _ ← act (set_field o (codes "fields") (Arr fields))
   give o
+
+-- an object for a class and fields that were kept
+abbrev pub remade : Said → Option ℕ → Prog ℕ
+remade p (Some class) = make_policy class p.1.entries
+remade p None = make_lost p.0 p.1
 
 -- what a policy text says is one object; each text of a good entry says something
 abbrev pub thaw_said : Option Said → Prog ℕ
@@ -94,17 +102,14 @@ thaw_said None = faulted BadShadow
 abbrev pub thaw_policy : List ℕ → Prog ℕ
 thaw_policy text = thaw_said (said text)
 
--- an object for each of some policy texts, in order
-abbrev pub thaw_policies : List (List ℕ) → Prog (List ℕ)
-thaw_policies [] = give []
-thaw_policies (t ∷ ts) = do
-  o ← thaw_policy t
-  os ← thaw_policies ts
-  give (o ∷ os)
+-- an object for each of some policy texts, in order, behind those that are there
+abbrev pub thaw_policies : List ℕ → List (List ℕ) → Prog (List ℕ)
+thaw_policies so_far [] = give so_far
+thaw_policies so_far (t ∷ ts) = thaw_policy t >>= λ o. thaw_policies (so_far ++ o ∷ []) ts
 
 -- the objects of the policy texts of a set; the texts of a table have the objects at their places
 abbrev pub labels_for : List (List ℕ) → List ℕ → TextSet → NumberSet
-labels_for table objects s = labels_of (map (λ place. slice_get_or objects place 0) (places table s))
+labels_for table objects s = labels_of (map (λ place. slice_index_or objects place 0) (places table s))
 
 -- each byte with the objects of its policies
 abbrev pub labelled : List (List ℕ) → List ℕ → Marked → LabelledText
@@ -113,7 +118,7 @@ labelled table objects d = map (λ b. (b.0, labels_for table objects b.1)) d
 -- the bytes with their policies: each policy text takes a tick, all before the first object is made, and is one object, in the order of the shadow's table
 abbrev pub thaw_marked : Marked → Prog LabelledText
 thaw_marked d =
-    act (charge (length (policies (marks d)))) >>= λ _. thaw_policies (policies (marks d)) >>= λ objects. give (labelled (policies (marks d)) objects d)
+    act (charge (length (policies (marks d)))) >>= λ _. thaw_policies [] (policies (marks d)) >>= λ objects. give (labelled (policies (marks d)) objects d)
 
 -- a read of an entry that holds so many bytes
 abbrev pub thaw_short : LabelledEntry → Prog LabelledText

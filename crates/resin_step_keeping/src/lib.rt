@@ -1,0 +1,7 @@
+//! Policies beside stored data: what is kept of the policies of a text, and what a read makes of an entry.
+#![tactic(auto)]
+
+pub mod freezing;
+pub mod labels;
+pub mod runs;
+pub mod thawing;

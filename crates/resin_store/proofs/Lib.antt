@@ -1,0 +1,4 @@
+pub mod Maps
+pub mod Sound
+pub mod Lifts
+pub mod Stores

@@ -1,0 +1,4 @@
+pub mod Mapped
+pub mod Entries
+pub mod Files
+pub mod Laws
