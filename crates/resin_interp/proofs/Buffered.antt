@@ -2,14 +2,14 @@
 use Rattle.std.proofs.Common.{◌≡◌, ℕ, zero, suc, ◌+◌, ◌-◌, ◌<◌, ◌≤◌, ◌==◌, false, List, [], ◌∷◌, ◌++◌, length, drop, sym, ap, subst, ◌∙◌, arith, length-append, Result, Err, IsErrAnd, get_or}
 use Rattle.std.proofs.lemmas.Result.{err_from_is_err_and}
 use Rattle.std.proofs.lemmas.List.{drop_all}
-use Rattle.resin_interp.proofs.meaning_lemmas.Composition.{front}
-use Rattle.resin_inputs.specs.Under.lstr.Texts.{Text, LONGEST}
-use Rattle.resin_inputs.specs.Under.lstr.Faults.{GivesText}
-use Rattle.resin_inputs.specs.Under.lstr.declared.text.TextFault.{TextFault}
-use Rattle.resin_inputs.specs.Under.lstr.declared.text.TextFault.TheVariants.{TooLong, Memory}
-use Rattle.resin_interp.specs.Under.meaning.Programs.{act, ◌>>=◌}
-use Rattle.resin_interp.specs.Under.machine.Leaving.{close_buffer}
-use Rattle.resin_request.specs.Buffers.{joined_outwards, close_more, with_closed}
+use Rattle.resin_eval_calls.proofs.meaning_lemmas.Composition.{front}
+use Rattle.resin_eval_calls.specs.Under.lstr.Texts.{Text, LONGEST}
+use Rattle.resin_eval_calls.specs.Under.lstr.Faults.{GivesText}
+use Rattle.resin_eval_calls.specs.Under.lstr.declared.text.TextFault.{TextFault}
+use Rattle.resin_eval_calls.specs.Under.lstr.declared.text.TextFault.TheVariants.{TooLong, Memory}
+use Rattle.resin_eval_calls.specs.Under.meaning.Programs.{act, ◌>>=◌}
+use Rattle.resin_eval_calls.specs.Under.machine.Leaving.{close_buffer}
+use Rattle.resin_interp.specs.Pages.{joined_outwards, close_more, with_closed}
 
 -- the inner texts are no longer than all
 inner_short : (k : ℕ) (ts : List Text) → length (joined_outwards (drop k ts)) ≤ length (joined_outwards ts)

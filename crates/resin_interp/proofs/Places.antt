@@ -1,19 +1,17 @@
 -- Places behind a text, and what a text is read as.
-use Rattle.std.proofs.Common.{◌≡◌, ℕ, zero, suc, ◌+◌, ◌≤◌, List, [], ◌∷◌, length, Result, Ok, Err, refl, sym, ap, ◌∙◌, arith, subst, inl, true}
-use Rattle.std.specs.Prelude.{nat_le, if◌then◌else◌}
-use Rattle.std.proofs.lemmas.Bool.Decides.{nat_tests}
-use Rattle.resin_inputs.specs.Under.lstr.Texts.{LONGEST}
+use Rattle.std.proofs.Common.{◌≡◌, ℕ, zero, suc, ◌+◌, ◌≤◌, List, [], ◌∷◌, length, Result, Ok, Err, refl, sym, ap, ◌∙◌, arith, subst, inl}
+use Rattle.std.specs.Prelude.{if◌then◌else◌}
 use Rattle.resin_lex.specs.Lines.{ends_line, line_ends, line_of}
 use Rattle.resin_lex.specs.declared.token.ParseFault.{ParseFault}
 use Rattle.resin_lex.specs.declared.token.ParseFault.TheVariants as fault
-use Rattle.resin_interp.specs.Under.tree.declared.declaration.Program.{Program}
-use Rattle.resin_inputs.specs.Under.scalar.declared.faults.ScriptFault.TheVariants.{Syntax, TooDeep}
-use Rattle.resin_interp.specs.Under.machine.declared.stop.Stop.TheVariants.{Fault, Memory}
+use Rattle.resin_eval_calls.specs.Under.tree.declared.declaration.Program.{Program}
+use Rattle.resin_eval_calls.specs.Under.scalar.declared.faults.ScriptFault.TheVariants.{Syntax, TooDeep}
+use Rattle.resin_eval_calls.specs.Under.machine.declared.stop.Stop.TheVariants.{Fault, Memory}
 use Rattle.resin_program_grammar.specs.Parsed.{IsAsParsed, parsed}
-use Rattle.resin_interp.specs.Under.meaning.Programs.{Prog, ended, moment}
-use Rattle.resin_interp.specs.Under.meaning.Runs.{World, Does, Reached}
-use Rattle.resin_interp.proofs.meaning_lemmas.Composition.{does_nothing, does_ended, none_here}
-use Rattle.resin_request.specs.Sources.{read_as}
+use Rattle.resin_eval_calls.specs.Under.meaning.Programs.{Prog, ended, moment}
+use Rattle.resin_eval_calls.specs.Under.meaning.Runs.{World, Does, Reached}
+use Rattle.resin_eval_calls.proofs.meaning_lemmas.Composition.{does_nothing, does_ended, none_here}
+use Rattle.resin_eval_calls.specs.Under.meaning_forms.Sources.{read_as}
 
 -- no line ends behind a text
 ends_past : (n : ℕ) (xs : List ℕ) → length xs ≤ n → line_ends n xs ≡ line_ends (length xs) xs
@@ -26,7 +24,7 @@ pub line_past : (src : List ℕ) (place end : ℕ) → end ≡ length src → le
 line_past src place end e le = ap (λ n. line_of src n) e ∙ ap (λ k. 1 + k) (sym (ends_past place src le))
 
 -- reading a text takes no step
-starts : (src : List ℕ) (r : Result Program ParseFault) (failing : List ℕ) (at : Rattle.resin_interp.specs.Under.meaning.Programs.Whole) → Reached (moment [] at) (read_as src r failing at).moments
+starts : (src : List ℕ) (r : Result Program ParseFault) (failing : List ℕ) (at : Rattle.resin_eval_calls.specs.Under.meaning.Programs.Whole) → Reached (moment [] at) (read_as src r failing at).moments
 starts src (Ok p) failing at = inl refl
 starts src (Err (fault.Syntax place)) failing at = inl refl
 starts src (Err (fault.TooDeep place)) failing at = inl refl
@@ -34,9 +32,6 @@ starts src (Err fault.Memory) failing at = inl refl
 
 pub read_none : (src : List ℕ) (r : Result Program ParseFault) (w : World) → Does (read_as src r) w (Err Memory) w
 read_none src r w = does_nothing (read_as src r) (starts src r)
-
-pub short_text : (xs : List ℕ) → nat_le (length xs) LONGEST ≡ true → length xs ≤ LONGEST
-short_text xs e = grind (arith, nat_tests)
 
 -- a text that is none
 pub read_syntax : (src : List ℕ) (e : ParseFault) (place line : ℕ) (w : World) → IsAsParsed (Err e) src → e ≡ fault.Syntax place → line ≡ line_of src place

@@ -1,16 +1,15 @@
 //! The inputs of a request: each value passes the filters of inputs, then they are set.
-ghost use Rattle.std.specs.Prelude.{◌≡◌, IfOk, IsTrue};
+ghost use Rattle.resin_eval_calls.specs.Under.target.Reads.{GivesOrNoMemory};
+ghost use Rattle.std.specs.Prelude.{◌≡◌, IfOk, IsTrue, Some};
 ghost use Rattle.resin_eval_calls.specs.Under.eval_nested.Nested.{Nests, means};
 ghost use Rattle.resin_eval_calls.specs.Under.eval_nested.Running.{Performs};
 ghost use Rattle.resin_eval_calls.specs.Under.meaning_forms.Inputs as inputs;
-ghost use Rattle.resin_eval_calls.specs.Under.meaning_forms.Parts.{computed};
 ghost use Rattle.resin_eval_calls.specs.Under.meaning_forms.Programs.{evals, most_open};
-ghost use Rattle.resin_eval_calls.specs.Under.meaning_forms.Runs.{Runs, on_ok};
+ghost use Rattle.resin_eval_calls.specs.Under.meaning_forms.Runs.{on_ok};
 ghost use Rattle.resin_eval_calls.specs.Under.meaning_forms.Writes.{plain as plain_text};
 ghost use Rattle.resin_eval_calls.specs.Under.array_fn.Filled.{added_at};
 ghost use Rattle.resin_eval_calls.specs.Under.value.Keys.{is_lawful};
 ghost use Rattle.resin_eval_calls.specs.Under.value.Seen.{tree_of};
-ghost use Rattle.std.specs.Prelude.{Some};
 
 use crate::run::evaluation;
 use crate::top::MOST_OPEN;
@@ -22,8 +21,9 @@ use resin_eval_calls::under::eval_writes::leaving::{context_of, text_key, with_t
 use resin_eval_calls::under::eval_writes::reading::Reader;
 use resin_eval_calls::under::journal::Channel;
 use resin_eval_calls::under::lstr::LText;
-use resin_eval_calls::under::machine::{Machine, Stop};
-use resin_eval_calls::under::step_parts::reads::{plain, with_entry};
+use resin_eval_calls::under::machine::Stop;
+use resin_eval_calls::under::scalar::CallStop;
+use resin_eval_calls::under::step_parts::reads::{array_stop, plain};
 use resin_eval_calls::under::value::{Arr, Key, Value};
 use std::alloc::{AllocError, Global};
 use std::marker::PhantomData;
@@ -49,13 +49,15 @@ fn input_context(alloc: Global, name: &[u8], key: &Key) -> Result<Value, AllocEr
     Ok(Value::Arr(with_text(context, &at_key, key_text(alloc, key)?)?))
 }
 
-// Puts a value at a key of an array.
-fn put_back(m: &mut Machine, a: Arr, key: &Key, v: Value) -> Result<Arr, Stop>
+// An array with a value put at a key.
+fn with_value(mut a: Arr, key: &Key, v: Value) -> Result<Arr, CallStop>
     requires { IsTrue (is_lawful key.now) }
-    ensures { Runs (computed (added_at (Some key.now) (tree_of v) a)) m.old result m.new }
+    ensures { GivesOrNoMemory result (added_at (Some key.now) (tree_of v) a) }
 {
-    let key = Some(key.clone()?);
-    m.settle(with_entry(a, &key, v))
+    match a.put(key, v) {
+        Ok(()) => Ok(a),
+        Err(fault) => Err(array_stop(fault)),
+    }
 }
 
 // Filters of inputs, by an evaluator.
@@ -98,7 +100,8 @@ impl<
         for i in 0..a.len() {
             let (key, v) = a.entry(i);
             let v = self.filtered_text(run, context, v)?;
-            all = put_back(&mut run.machine, all, key, v)?;
+            let put = with_value(all, key, v);
+            all = run.machine.settle(put)?;
         }
         Ok(all)
     }
@@ -133,7 +136,8 @@ impl<
         for i in 0..a.len() {
             let (key, v) = a.entry(i);
             let v = self.filtered_input(run, name, key, v)?;
-            all = put_back(&mut run.machine, all, key, v)?;
+            let put = with_value(all, key, v);
+            all = run.machine.settle(put)?;
         }
         Ok(all)
     }

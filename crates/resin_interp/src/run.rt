@@ -106,14 +106,31 @@ fn run_items<F: Files, T: Tables>(
 {
     for item in items {
         if let Item::Statement(s) = item {
-            match evaluation(alloc, room, Nested::Statement(s), run)? {
-                Outcome::Course(Course::Next) => {}
-                Outcome::Course(course) => return Ok(course),
-                Outcome::Value(_) => unreachable!(),
+            match run_statement(alloc, room, run, s)? {
+                Course::Next => {}
+                Course::Break => return Ok(Course::Break),
+                Course::Continue => return Ok(Course::Continue),
+                Course::Return(v) => return Ok(Course::Return(v)),
             }
         }
     }
     Ok(Course::Next)
+}
+
+// A statement of a file.
+#[cycle(walk)]
+fn run_statement<F: Files, T: Tables>(
+    alloc: Global,
+    room: u32,
+    run: &mut Run<F, T>,
+    s: &Stmt,
+) -> Result<Course, Stop>
+    ensures { Performs F.Files T.Tables ((evals room).stmt s.now) run.old result run.new }
+{
+    match evaluation(alloc, room, Nested::Statement(s), run)? {
+        Outcome::Course(course) => Ok(course),
+        Outcome::Value(_) => unreachable!(),
+    }
 }
 
 /// Expressions and statements by their forms, by an evaluator.

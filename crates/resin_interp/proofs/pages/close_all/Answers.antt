@@ -1,10 +1,10 @@
 use Rattle.std.proofs.Common.{ap, sym, arith, ◌+◌, ◌-◌}
-use Rattle.resin_interp.specs.Under.machine.Leaving.{close_buffer}
-use Rattle.resin_interp.specs.Under.meaning.Programs.{act}
-use Rattle.resin_interp.proofs.meaning_lemmas.Composition.{does_loosely, does_give, does_exit, does_lost_exit, leads_here, leads_next, leads_by}
-use Rattle.resin_request.specs.Buffers.{close_more, with_closed}
-use Rattle.resin_request.proofs.Buffered.{close_first, close_next, close_last}
-use Rattle.resin_request.proofs.buffers.close_all.Goals as goal
+use Rattle.resin_eval_calls.specs.Under.machine.Leaving.{close_buffer}
+use Rattle.resin_eval_calls.specs.Under.meaning.Programs.{act}
+use Rattle.resin_eval_calls.proofs.meaning_lemmas.Composition.{does_loosely, does_give, does_exit, does_lost_exit, leads_here, leads_next, leads_by}
+use Rattle.resin_interp.specs.Pages.{close_more, with_closed}
+use Rattle.resin_interp.proofs.Buffered.{close_first, close_next, close_last}
+use Rattle.resin_interp.proofs.pages.close_all.Goals as goal
 
 pub loop-init : goal.loop-init
 loop-init c = λ f t k. leads_by _ _ _ (close_first c.args.count c.new-texts.result c.new-texts.ensures) (leads_here _ _)

@@ -1,6 +1,6 @@
 use Rattle.std.proofs.Common.{refl, arith, ◌+◌, ◌-◌, length}
-use Rattle.resin_request.proofs.Buffered.{joined_start, joined_more, joined_end, joined_lost, joined_memory}
-use Rattle.resin_request.proofs.buffers.joined.Goals as goal
+use Rattle.resin_interp.proofs.Buffered.{joined_start, joined_more, joined_end, joined_lost, joined_memory}
+use Rattle.resin_interp.proofs.pages.joined.Goals as goal
 
 pub loop-i-init : goal.loop-i-init
 loop-i-init c = joined_start c.args.texts.now c.new-all.result c.new-all.ensures

@@ -1,6 +1,6 @@
-use Rattle.resin_interp.proofs.meaning_lemmas.Composition.{does_give}
-use Rattle.resin_request.proofs.Places.{read_none, read_syntax, read_deep}
-use Rattle.resin_request.proofs.source.read_source.Goals as goal
+use Rattle.resin_eval_calls.proofs.meaning_lemmas.Composition.{does_give}
+use Rattle.resin_interp.proofs.Places.{read_none, read_syntax, read_deep}
+use Rattle.resin_interp.proofs.sources.read_source.Goals as goal
 
 pub returns-in-Ok : goal.returns-in-Ok
 returns-in-Ok c = λ w. rw c.in-Ok.ensures.exact (does_give c.in-Ok.p w)
