@@ -148,9 +148,9 @@ fn perform_request<F: Files, T: Tables>(
     alloc: Global,
     run: &mut Run<F, T>,
     path: &[u8],
-    inputs: &InputArrays,
+    inputs: InputArrays,
 ) -> Result<Finish, Stop>
-    ensures { Performs F.Files T.Tables (request_program path.now inputs.now) run.old result run.new }
+    ensures { Performs F.Files T.Tables (request_program path.now inputs) run.old result run.new }
 {
     if !is_open(path) {
         return Ok(Finish::Missing);
@@ -158,7 +158,7 @@ fn perform_request<F: Files, T: Tables>(
     let found = run.read_file(path)?;
     match found {
         None => Ok(Finish::Missing),
-        Some(e) => serve_entry(alloc, run, path, inputs, &e),
+        Some(e) => serve_entry(alloc, run, path, &inputs, &e),
     }
 }
 
@@ -192,6 +192,6 @@ pub fn run_request<F: Files, T: Tables>(
         calls,
         |run|
             ensures { Performs F.Files T.Tables (request_program path.entry.now inputs) run.old result run.new }
-        { perform_request(alloc, run, path, &inputs) },
+        { perform_request(alloc, run, path, inputs) },
     )
 }
