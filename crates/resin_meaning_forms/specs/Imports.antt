@@ -59,9 +59,13 @@ run_entry ev path e = do
   course ← source ev src
   give (value_of_course course)
 
+-- a file that isn't there
+abbrev pub missing : Import → Prog Value
+missing kind = if is_required kind then thrown_new Error else give (Boolean false)
+
 abbrev pub run_found : Evals → Import → List ℕ → Option LabelledEntry → Prog Value
 run_found ev kind path (Some e) = run_entry ev path e
-run_found ev kind path None = if is_required kind then thrown_new Error else give (Boolean false)
+run_found ev kind path None = missing kind
 
 -- a `_once` form of a path that was imported is true, and no keeper call is made
 abbrev pub run_path : Evals → Import → List ℕ → Prog Value

@@ -1,6 +1,6 @@
 -- The inputs of a request: each value passes the filters of inputs, then they are set (PHP manual, "Variables From External Sources"; filters after RESIN).
 use Rattle.std.specs.Prelude.{ℕ, ℤ, List, [], ◌∷◌, codes, Option, Some}
-use Rattle.std.specs.Str.{int_decimal}
+use Rattle.std.specs.Fmt.{signed_decimal}
 use Rattle.resin_builtin.specs.Under.lstr.Texts.{Text as LabelledText}
 use Rattle.resin_target.specs.Under.journal.declared.channel.Channel.TheVariants.{Input}
 use Rattle.resin_target.specs.Under.journal.Channels.{channel_name}
@@ -20,7 +20,7 @@ use Rattle.resin_meaning_forms.specs.Reading.{read_through}
 
 -- a key as text
 abbrev pub key_text : Key → List ℕ
-key_text (IntKey n) = int_decimal n
+key_text (IntKey n) = signed_decimal n
 key_text (TextKey b) = b
 
 -- what a filter of inputs is told: the array by its name, and the outermost key
@@ -46,11 +46,14 @@ filtered_entries filter (e ∷ es) a = do
 abbrev pub as_tree : Array → Tree
 as_tree a = array (row_of a.entries) a.largest a.height
 
--- an input: a text, or an array of texts, whose values are told the key of that array
+-- the values of an array, about which the filters are told the same
+abbrev pub filtered_texts : Evals → Value → Array → Prog Array
+filtered_texts ev context a = filtered_entries (λ k t. filtered_text ev context t) a.entries a
+
+-- an input: a text, or an array of texts, about whose values the filters are told the key of that array
 abbrev pub filtered_input : Evals → List ℕ → Key → Tree → Prog Tree
 filtered_input ev name key (array r l h) =
-    filtered_entries (λ k t. filtered_text ev (input_context name (key_text key)) t) (entries_of r) (record { entries = entries_of r; largest = l; height = h })
-    >>= λ a. give (as_tree a)
+    filtered_texts ev (input_context name (key_text key)) (record { entries = entries_of r; largest = l; height = h }) >>= λ a. give (as_tree a)
 filtered_input ev name key t = filtered_text ev (input_context name (key_text key)) t
 
 abbrev pub filtered_array : Evals → List ℕ → Array → Prog Array
