@@ -37,15 +37,15 @@ policy_kept acc acc' xs ys h e =
     let is = ap (λ (r : List (List ℕ) × List ℕ). r.0) (from_some (acc ++ p.0.0 ∷ [], q.0.1) (acc', ys) q.2) in
     subst (Each IsPolicyText) is (each-append IsPolicyText acc (p.0.0 ∷ []) h ((front_read xs p.0.0 p.0.1 p.1).1, tt))
 
+one_told : (table : List (List ℕ)) (w x : List ℕ) → Each IsPolicyText table → text_told table w ≡ Some x → IsPolicyText x
+unfolding text_told
+one_told table w x t e = let q = bound (number w) (λ n. slice_get table n) x e in each_at IsPolicyText table q.0 x t q.2
+
 told_kept : (table acc : List (List ℕ)) (ws out : List (List ℕ)) → Each IsPolicyText table → Each IsPolicyText acc → texts_told table acc ws ≡ Some out → Each IsPolicyText out
 told_kept table acc [] out t h e = subst (Each IsPolicyText) (from_some acc out e) h
 told_kept table acc (w ∷ ws) out t h e =
     let p = bound (text_told table w) (λ t. texts_told table (acc ++ t ∷ []) ws) out e in
-    told_kept table (acc ++ p.0 ∷ []) ws out t (each-append IsPolicyText acc (p.0 ∷ []) h (one w p.0 p.1, tt)) p.2
-  where
-    one : (w x : List ℕ) → text_told table w ≡ Some x → IsPolicyText x
-    unfolding text_told
-    one w x e = let q = bound (number w) (λ n. slice_get table n) x e in each_at IsPolicyText table q.0 x t q.2
+    told_kept table (acc ++ p.0 ∷ []) ws out t (each-append IsPolicyText acc (p.0 ∷ []) h (one_told table w p.0 t p.1, tt)) p.2
 
 -- ---- sets
 module _ {K : Type 0} {R : K → K → Ordering} (o : IsTotalOrder R) where
@@ -65,16 +65,30 @@ module _ {K : Type 0} {R : K → K → Ordering} (o : IsTotalOrder R) where
       by Equal = h
       by Greater = (h.0, below_insert x k ys e h.1)
 
-  sorted_insert : (ys : List K) (k : K) → IsStrictlySortedBy R ys → IsStrictlySortedBy R (insert_key R ys k)
+  less_put : (y k : K) (ys : List K) → R k y ≡ Less → IsStrictlySortedBy R (y ∷ ys) → IsStrictlySortedBy R (k ∷ y ∷ ys)
   unfolding IsStrictlySortedBy
-  sorted_insert [] k h = (tt, tt)
-  sorted_insert (y ∷ ys) k h = by (R k y) refl
+  less_put y k ys e h = ((e, lower k y ys e h.0), h)
+
+  greater_put : (y k : K) (ys : List K) → R k y ≡ Greater → IsStrictlySortedBy R (y ∷ ys) → IsStrictlySortedBy R (insert_key R ys k) → IsStrictlySortedBy R (y ∷ insert_key R ys k)
+  unfolding IsStrictlySortedBy
+  greater_put y k ys e h z = (below_insert y k ys (o.antisymm y k ∙ ap ordering_reverse e) h.0, z)
+
+  tail_sorted : (y : K) (ys : List K) → IsStrictlySortedBy R (y ∷ ys) → IsStrictlySortedBy R ys
+  unfolding IsStrictlySortedBy
+  tail_sorted y ys h = h.1
+
+  one_sorted : (k : K) → IsStrictlySortedBy R (k ∷ [])
+  unfolding IsStrictlySortedBy
+  one_sorted k = (tt, tt)
+
+  sorted_insert : (ys : List K) (k : K) → IsStrictlySortedBy R ys → IsStrictlySortedBy R (insert_key R ys k)
+  sorted_insert [] k h = one_sorted k
+  sorted_insert (y ∷ ys) k h = by (R k y) refl (sorted_insert ys k (tail_sorted y ys h))
     where
-      by : (r : Ordering) → R k y ≡ r → IsStrictlySortedBy R (match_ordering r (k ∷ y ∷ ys) (y ∷ ys) (y ∷ insert_key R ys k))
-      unfolding IsStrictlySortedBy
-      by Less e = ((e, lower k y ys e h.0), h)
-      by Equal e = h
-      by Greater e = (below_insert y k ys (o.antisymm y k ∙ ap ordering_reverse e) h.0, sorted_insert ys k h.1)
+      by : (r : Ordering) → R k y ≡ r → IsStrictlySortedBy R (insert_key R ys k) → IsStrictlySortedBy R (match_ordering r (k ∷ y ∷ ys) (y ∷ ys) (y ∷ insert_key R ys k))
+      by Less e z = less_put y k ys e h
+      by Equal e z = h
+      by Greater e z = greater_put y k ys e h z
 
   sorted_fold : (ks ys : List K) → IsStrictlySortedBy R ys → IsStrictlySortedBy R (fold (insert_key R) ys ks)
   sorted_fold [] ys h = h
@@ -137,19 +151,26 @@ record AreGood (v : Marks) : Type 0 where
   each : Each IsGood v
   count : length v < 2 ^ 64
 
+below_from : (a b : ℕ) → nat_lt a b ≡ true → a < b
+below_from a b t = grind (arith, nat_tests)
+
 longer_good : (v w : Marks) (n : ℕ) (s : TextSet) → AreGood v → IsGood s → longer v (n, s) ≡ Some w → AreGood w
 unfolding longer
 longer_good v w n s h g e = by (nat_eq n 0) (nat_lt (length v + n) (2 ^ 64)) refl e
   where
+    count : nat_lt (length v + n) (2 ^ 64) ≡ true → length (v ++ replicate n s) < 2 ^ 64
+    count t =
+        let a : length v + n < 2 ^ 64 = below_from (length v + n) (2 ^ 64) t in
+        let b : length (v ++ replicate n s) ≡ length v + length (replicate n s) = length-append v (replicate n s) in
+        let c : length (replicate n s) ≡ n = length-replicate n s in
+        omega (arith, a, b, c)
+
     by : (a b : Bool) → nat_lt (length v + n) (2 ^ 64) ≡ b → cond a None (cond b (Some (v ++ replicate n s)) None) ≡ Some w → AreGood w
     by true b t f = absurd (none_some w f)
     by false false t f = absurd (none_some w f)
     by false true t f = subst AreGood (from_some (v ++ replicate n s) w f) (record {
       each = each-append IsGood v (replicate n s) h.each (each_same IsGood n s g);
-      count = (let a : length v + n < 2 ^ 64 = grind (arith, nat_tests) in
-          let b : length (v ++ replicate n s) ≡ length v + length (replicate n s) = length-append v (replicate n s) in
-          let c : length (replicate n s) ≡ n = length-replicate n s in
-          omega (arith, a, b, c));
+      count = count t;
     })
 
 runs_kept : (told : Option (List ℕ) → Option TextSet) → ((o : Option (List ℕ)) (s : TextSet) → told o ≡ Some s → IsGood s)

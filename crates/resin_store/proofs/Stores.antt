@@ -29,9 +29,9 @@ pub lift_remove : (s : FileStore) (path : List ℕ) → lift_files (remove s pat
 lift_remove s path = mapped-remove byte_order lift nat_list_cmp_total paths_same s path
 
 -- what is written
-pub lift_written : (s : FileStore) (path bytes shadow : List ℕ) (d : Marked) → AreWritten bytes shadow d → length shadow < 2 ^ 64
+pub lift_written : (s : FileStore) (path bytes shadow : List ℕ) (d : Marked) → AreWritten bytes shadow d
     → lift_files (with_entry s path bytes shadow) ≡ insert (lift_files s) path (Good d Second)
-lift_written s path bytes shadow d w small =
+lift_written s path bytes shadow d w =
     mapped-insert byte_order lift nat_list_cmp_total paths_same s path (entry_of bytes shadow)
     ∙ ap (insert (lift_files s) path) (ap (λ bs. lift (entry_of bs shadow)) w.bytes_are ∙ ap (λ x. lift (entry_of (plain_bytes d) x)) w.shadow_is
-    ∙ lifts_written d w.are_marks (subst (λ (x : List ℕ). length x < 2 ^ 64) w.shadow_is small))
+    ∙ lifts_written d w.are_marks (subst (λ (x : List ℕ). length x < 2 ^ 64) w.shadow_is w.short))
