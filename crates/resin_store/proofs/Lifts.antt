@@ -12,6 +12,7 @@ use Rattle.resin_frozen.proofs.Numbers.{and_left, and_right, both, text_same, te
 use Rattle.resin_frozen.proofs.Parts.{bound, on}
 use Rattle.resin_shadow.specs.Marks.{TextSet, IsTextSet, Marks, AreMarks, Each}
 use Rattle.resin_shadow.specs.Shadows.{written1, written2, Spells}
+use Rattle.resin_shadow.specs.Answers.{Decodes}
 use Rattle.resin_shadow.specs.Readers.{read1, read2}
 use Rattle.resin_shadow.proofs.First_met.{number_from, number_same}
 use Rattle.resin_shadow.proofs.Versions.{has_one_version}
@@ -72,8 +73,11 @@ nothing_spelled v h e =
     spells_one [] v (replicate (length v) []) (omega arith) h (no_marks (length v) h.count) (sym (length-replicate (length v) [])) e (inr (sym (nothing_written (length v))))
 
 nat_false : (n : ℕ) → (n ≡ 0 → ⊥) → nat_eq n 0 ≡ false
-nat_false zero z = absurd (z refl)
-nat_false (suc n) z = refl
+nat_false n z = by (nat_eq n 0) refl
+  where
+    by : (b : Bool) → nat_eq n 0 ≡ b → nat_eq n 0 ≡ false
+    by true e = absurd (z (number_from n 0 e))
+    by false e = e
 
 -- ---- lifting, by whether the shadow text is empty
 pub lift_empty : (e : Entry) → length e.shadow ≡ 0 → lift e ≡ Good (unmarked e.bytes) Second
@@ -306,3 +310,7 @@ marks_found e w held h s len =
 
 pub marks_missing : (e : Entry) → IsHeld e → SpellsNone e → None ≡ marks_in (lift e)
 marks_missing e held none = ap marks_in (sym ((lifts_bad e held).1 none))
+
+pub found_marks : (e : Entry) (len : ℕ) (x : List ℕ) (found : Option Marks) → IsHeld e → len ≡ length e.bytes → x ≡ e.shadow → ((w : Marks) → found ≡ Some w → AreMarks w) → Decodes len x found → found ≡ marks_in (lift e)
+found_marks e len x (Some w) held n s are d = marks_found e w held (are w refl) (subst (λ y. Spells y w) s d.0) (d.1 ∙ n)
+found_marks e len x None held n s are d = marks_missing e held (λ w h y l. d w h (subst (λ z. Spells z w) (sym s) y) (l ∙ sym n))

@@ -58,12 +58,12 @@ module _ {K : Type 0} {R : K → K → Ordering} (o : IsTotalOrder R) where
 
   below_insert : (x k : K) (ys : List K) → R x k ≡ Less → IsBelow x ys → IsBelow x (insert_key R ys k)
   below_insert x k [] e h = (e, tt)
-  below_insert x k (y ∷ ys) e h = by (R k y)
+  below_insert x k (y ∷ ys) e h = by (R k y) (below_insert x k ys e h.1)
     where
-      by : (r : Ordering) → IsBelow x (match_ordering r (k ∷ y ∷ ys) (y ∷ ys) (y ∷ insert_key R ys k))
-      by Less = (e, h)
-      by Equal = h
-      by Greater = (h.0, below_insert x k ys e h.1)
+      by : (r : Ordering) → IsBelow x (insert_key R ys k) → IsBelow x (match_ordering r (k ∷ y ∷ ys) (y ∷ ys) (y ∷ insert_key R ys k))
+      by Less z = (e, h)
+      by Equal z = h
+      by Greater z = (h.0, z)
 
   less_put : (y k : K) (ys : List K) → R k y ≡ Less → IsStrictlySortedBy R (y ∷ ys) → IsStrictlySortedBy R (k ∷ y ∷ ys)
   unfolding IsStrictlySortedBy
@@ -96,12 +96,12 @@ module _ {K : Type 0} {R : K → K → Ordering} (o : IsTotalOrder R) where
 
   each_insert : (P : K → Type 0) (ys : List K) (k : K) → Each P ys → P k → Each P (insert_key R ys k)
   each_insert P [] k h p = (p, tt)
-  each_insert P (y ∷ ys) k h p = by (R k y)
+  each_insert P (y ∷ ys) k h p = by (R k y) (each_insert P ys k h.1 p)
     where
-      by : (r : Ordering) → Each P (match_ordering r (k ∷ y ∷ ys) (y ∷ ys) (y ∷ insert_key R ys k))
-      by Less = (p, h)
-      by Equal = h
-      by Greater = (h.0, each_insert P ys k h.1 p)
+      by : (r : Ordering) → Each P (insert_key R ys k) → Each P (match_ordering r (k ∷ y ∷ ys) (y ∷ ys) (y ∷ insert_key R ys k))
+      by Less z = (p, h)
+      by Equal z = h
+      by Greater z = (h.0, z)
 
   each_fold : (P : K → Type 0) (ks ys : List K) → Each P ys → Each P ks → Each P (fold (insert_key R) ys ks)
   each_fold P [] ys h p = h
