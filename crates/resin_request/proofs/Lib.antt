@@ -1,4 +1,5 @@
 pub mod Buffered
+pub mod Found
 pub mod Lent
 pub mod Places
 -- Passed on to the crates above, which list this one alone.
