@@ -23,7 +23,7 @@ use Rattle.resin_machine.specs.declared.stop.Stop.TheVariants.{Memory as NoMemor
 use Rattle.resin_machine.specs.State.{State}
 use Rattle.resin_machine.specs.Keeping.{Tied}
 use Rattle.resin_machine.proofs.Kept.{keeps_same}
-use Rattle.resin_store.specs.Entries.{Marked, Second, AreWritten, LabelledEntry, Good, plain, lift}
+use Rattle.resin_store.specs.Entries.{Marked, Second, AreWritten, Good, plain, lift}
 use Rattle.resin_store.specs.Files.{LabelledFiles, lift_files, plain_files}
 use Rattle.resin_store.proofs.Lifts.{keeps_entries}
 use Rattle.resin_store.proofs.Stores.{keeps_files, lift_get, lift_contains, lift_remove, lift_written}

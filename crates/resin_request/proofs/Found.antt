@@ -1,5 +1,5 @@
 -- An entry that was read, as programs see it.
-use Rattle.std.proofs.Common.{◌≡◌, Bool, List, ℕ, Option, Some, Result, sym, subst}
+use Rattle.std.proofs.Common.{Bool, List, ℕ, Some, Result, sym, subst}
 use Rattle.resin_inputs.specs.declared.arrays.InputArrays.{InputArrays}
 use Rattle.resin_interp.specs.Under.base.declared.files.Entry.{Entry}
 use Rattle.resin_interp.specs.Under.machine.declared.stop.Stop.{Stop}

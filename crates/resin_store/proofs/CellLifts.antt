@@ -1,5 +1,5 @@
 -- What lifting a cell gives.
-use Rattle.std.proofs.Common.{◌≡◌, ◌≢◌, ℕ, ℤ, zero, suc, Bool, true, false, List, [], ◌∷◌, length, map, refl, sym, ap, subst, ◌∙◌, arith}
+use Rattle.std.proofs.Common.{◌≡◌, ◌≢◌, ℕ, ℤ, Bool, true, false, List, [], ◌∷◌, length, refl, sym, ap, ◌∙◌, arith}
 use Rattle.std.proofs.lemmas.Bool.{true≢false}
 use Rattle.resin_base.specs.FileStore.{entry_of}
 use Rattle.resin_base.specs.declared.cell.Cell.{Cell}
@@ -7,11 +7,10 @@ use Rattle.resin_base.specs.declared.cell.Cell.TheVariants as cell
 use Rattle.resin_base.specs.declared.cell.Kind.{Kind}
 use Rattle.resin_base.specs.declared.cell.Kind.TheVariants as kind
 use Rattle.resin_base.specs.declared.files.Entry.{Entry}
-use Rattle.resin_base.specs.declared.stored.StoredCell.{StoredCell}
-use Rattle.resin_shadow.specs.Marks.{TextSet, Marks}
-use Rattle.resin_store.specs.Entries.{Marked, plain_bytes, marks, Version, First, Second, written, LabelledEntry, Good, Bad, plain, lift}
-use Rattle.resin_store.specs.Cells.{LabelledCell, Text, Integer, Null, Damaged, stored, plain_cell, lifted_text, one_byte, integer_with, lifted_integer, lifted_cell, lift_cell}
-use Rattle.resin_store.specs.Laws.{IsHeld, Tells, KeepsCells, LiftsTexts, LiftsIntegers}
+use Rattle.resin_shadow.specs.Marks.{TextSet}
+use Rattle.resin_store.specs.Entries.{Marked, plain_bytes, marks, Version, Second, written, LabelledEntry, Good, Bad, plain, lift}
+use Rattle.resin_store.specs.Cells.{LabelledCell, Text, Integer, stored, plain_cell, lifted_text, one_byte, integer_with, lifted_integer, lifted_cell}
+use Rattle.resin_store.specs.Laws.{KeepsCells, LiftsTexts, LiftsIntegers}
 use Rattle.resin_store.proofs.Lifts.{keeps_entries, lifts_good}
 
 abbrev head_of : List ℕ → ℕ

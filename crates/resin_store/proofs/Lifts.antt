@@ -1,5 +1,5 @@
 -- What lifting an entry gives.
-use Rattle.std.proofs.Common.{◌≡◌, ◌≢◌, ◌⊎◌, inl, inr, ℕ, zero, suc, ◌^◌, ◌<◌, Bool, true, false, cond, List, [], ◌∷◌, length, map, Option, Some, None, refl, sym, ap, subst, ◌∙◌, arith}
+use Rattle.std.proofs.Common.{◌≡◌, ◌≢◌, ◌⊎◌, inl, inr, ℕ, zero, suc, ◌^◌, ◌<◌, Bool, true, false, cond, List, [], ◌∷◌, length, Option, Some, None, refl, sym, ap, subst, ◌∙◌, arith}
 use Rattle.std.specs.Prelude.{◌&&◌, nat_eq, replicate, zip}
 use Rattle.std.specs.List.{flat_map}
 use Rattle.std.proofs.lemmas.Bool.{true≢false}
@@ -10,10 +10,9 @@ use Rattle.resin_base.specs.FileStore.{entry_of}
 use Rattle.resin_base.specs.declared.files.Entry.{Entry}
 use Rattle.resin_frozen.proofs.Numbers.{and_left, and_right, both, text_same, text_is, some_if}
 use Rattle.resin_frozen.proofs.Parts.{bound, on}
-use Rattle.resin_shadow.specs.Marks.{TextSet, IsTextSet, Marks, AreMarks, Each}
+use Rattle.resin_shadow.specs.Marks.{TextSet, Marks, AreMarks}
 use Rattle.resin_shadow.specs.Shadows.{written1, written2, Spells}
 use Rattle.resin_shadow.specs.Answers.{Decodes}
-use Rattle.resin_shadow.specs.Readers.{read1, read2}
 use Rattle.resin_shadow.proofs.First_met.{number_from, number_same}
 use Rattle.resin_shadow.proofs.Versions.{has_one_version}
 use Rattle.resin_shadow.proofs.Whole.{read1_written, read2_written, spells_one}

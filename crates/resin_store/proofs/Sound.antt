@@ -1,12 +1,12 @@
 -- What is read of a shadow text is a list of sets of policy texts.
-use Rattle.std.proofs.Common.{◌≡◌, ◌≢◌, ℕ, zero, suc, ◌+◌, ◌^◌, ◌<◌, Bool, true, false, cond, List, [], ◌∷◌, ◌++◌, length, Option, Some, None, refl, sym, ap, subst, ◌∙◌, arith, length-append}
+use Rattle.std.proofs.Common.{◌≡◌, ℕ, zero, suc, ◌+◌, ◌^◌, ◌<◌, Bool, true, false, cond, List, [], ◌∷◌, ◌++◌, length, Option, Some, None, refl, sym, ap, subst, ◌∙◌, arith, length-append}
 use Rattle.std.specs.Prelude.{nat_eq, nat_lt, replicate, slice_get, codes}
 use Rattle.std.specs.BTreeSet.{insert_key}
-use Rattle.std.specs.List.{fold, flat_map, AllByRecursion}
+use Rattle.std.specs.List.{fold, AllByRecursion}
 use Rattle.std.specs.List.Sorted.{IsStrictlySortedBy}
-use Rattle.std.specs.Ordering.{nat_cmp, ordering_reverse, match_ordering}
+use Rattle.std.specs.Ordering.{ordering_reverse, match_ordering}
 use Rattle.std.specs.Cmp.{IsTotalOrder}
-use Rattle.std.specs.Cmp.Lexicographic.{slice_cmp, nat_list_cmp_total}
+use Rattle.std.specs.Cmp.Lexicographic.{nat_list_cmp_total}
 use Rattle.std.specs.declared.cmp.Ordering.{Ordering}
 use Rattle.std.specs.declared.cmp.Ordering.TheVariants.{Less, Equal, Greater}
 use Rattle.std.proofs.lemmas.Bool.Decides.{nat_tests}
@@ -16,7 +16,7 @@ use Rattle.resin_frozen.specs.Reading.{Read, and_then, literal, cut, number, nat
 use Rattle.resin_frozen.proofs.Numbers.{from_some, none_some}
 use Rattle.resin_frozen.proofs.Parts.{bound}
 use Rattle.resin_frozen.proofs.One_text.{front_read}
-use Rattle.resin_shadow.specs.Marks.{TextSet, IsTextSet, Marks, MarkRun, Each, AreMarks}
+use Rattle.resin_shadow.specs.Marks.{TextSet, IsTextSet, Marks, Each, AreMarks}
 use Rattle.resin_shadow.specs.Runs.{set_of}
 use Rattle.resin_shadow.specs.Readers.{times, policy_step, text_told, texts_told, set_told, words, set_step, run_parts, run_set1, run_set2, longer, pushed, run_step, read1, read2}
 use Rattle.resin_shadow.proofs.Kept.{each_at, each-append}

@@ -1,13 +1,12 @@
 -- The labelled store follows what a keeper of files does.
-use Rattle.std.proofs.Common.{◌≡◌, ℕ, ◌^◌, ◌<◌, List, length, Option, ap, subst, ◌∙◌}
+use Rattle.std.proofs.Common.{◌≡◌, ℕ, ◌^◌, ◌<◌, List, length, ap, subst, ◌∙◌}
 use Rattle.std.specs.Option.{option_map}
-use Rattle.std.specs.Ordering.{nat_cmp}
 use Rattle.std.specs.Cmp.Lexicographic.{nat_list_cmp_total}
 use Rattle.std.specs.FinMap.{get, insert, remove, contains_key, nat_cmp-IsAntisymmetric, slice_cmp-IsAntisymmetric, IsAntisymmetric}
 use Rattle.resin_base.specs.Contents.{byte_order}
 use Rattle.resin_base.specs.FileStore.{FileStore, entry_of, with_entry}
-use Rattle.resin_store.specs.Entries.{Marked, plain_bytes, marks, Second, AreWritten, LabelledEntry, Good, plain, lift}
-use Rattle.resin_store.specs.Files.{LabelledFiles, lift_files, plain_files}
+use Rattle.resin_store.specs.Entries.{Marked, plain_bytes, Second, AreWritten, Good, plain, lift}
+use Rattle.resin_store.specs.Files.{lift_files}
 use Rattle.resin_store.specs.Laws.{KeepsFiles}
 use Rattle.resin_store.proofs.Maps.{get-mapped, contains-mapped, mapped-insert, mapped-remove, mapped_back}
 use Rattle.resin_store.proofs.Lifts.{keeps_entries, lifts_written}
