@@ -1,5 +1,5 @@
 -- One keeper call.
-use Rattle.std.proofs.Common.{◌≡◌, ℕ, ◌+◌, ◌^◌, ◌≤◌, ◌<◌, List, [], ◌∷◌, ◌++◌, length, Bool, true, false, cond, not, nat_lt, Option, Some, None, Result, Ok, Err, inl, inr, refl, sym, ap, subst, ◌∙◌, arith, IsErrAnd}
+use Rattle.std.proofs.Common.{◌≡◌, ℕ, ◌+◌, ◌≤◌, ◌<◌, List, [], ◌∷◌, ◌++◌, Bool, true, false, cond, not, nat_lt, Option, Some, None, Result, Ok, Err, inl, inr, refl, sym, ap, subst, ◌∙◌, arith, IsErrAnd}
 use Rattle.std.proofs.lemmas.Result.{err_from_is_err_and}
 use Rattle.std.proofs.lemmas.Bool.Decides.{nat_tests}
 use Rattle.std.specs.Option.{option_map}
@@ -23,7 +23,7 @@ use Rattle.resin_machine.specs.declared.stop.Stop.TheVariants.{Memory as NoMemor
 use Rattle.resin_machine.specs.State.{State}
 use Rattle.resin_machine.specs.Keeping.{Tied}
 use Rattle.resin_machine.proofs.Kept.{keeps_same}
-use Rattle.resin_store.specs.Entries.{Marked, Second, AreWritten, LabelledEntry, Good, plain, lift}
+use Rattle.resin_store.specs.Entries.{Marked, Second, AreWritten, Good, plain, lift}
 use Rattle.resin_store.specs.Files.{LabelledFiles, lift_files, plain_files}
 use Rattle.resin_store.proofs.Lifts.{keeps_entries}
 use Rattle.resin_store.proofs.Stores.{keeps_files, lift_get, lift_contains, lift_remove, lift_written}
@@ -293,12 +293,12 @@ does_read_call path m x x' n n' a a' t c c' answer lt l told cause tells =
     (does_file_call path false (λ s. (get s path, s)) m (files_seen x n a) (files_seen x' n' a') t c c' (lifted answer) lt (lists_by (option_map lift) c c' answer l) (read_follows path x x' answer told)
     (cause_by (option_map lift) n n' answer cause) (outcome_by (option_map lift) a a' answer tells))
 
-pub write_follows : (path bytes shadow : List ℕ) (d : Marked) (x y : Option FileStore) (r : Result (Unit {0}) KeepFault) → AreWritten bytes shadow d → length shadow < 2 ^ 64
+pub write_follows : (path bytes shadow : List ℕ) (d : Marked) (x y : Option FileStore) (r : Result (Unit {0}) KeepFault) → AreWritten bytes shadow d
     → Told x y (λ s t. Writes s path bytes shadow r t) → Told (option_map lift_files x) (option_map lift_files y) (λ s t. Follows (λ s. (tt, insert s path (Good d Second))) s r t)
-write_follows path bytes shadow d x y r w small h = told_lift x y (λ s t. Writes s path bytes shadow r t) (λ s t. Follows (λ s. (tt, insert s path (Good d Second))) s r t) (cases r) h
+write_follows path bytes shadow d x y r w h = told_lift x y (λ s t. Writes s path bytes shadow r t) (λ s t. Follows (λ s. (tt, insert s path (Good d Second))) s r t) (cases r) h
   where
     cases : (r : Result (Unit {0}) KeepFault) (s t : FileStore) → Writes s path bytes shadow r t → Follows (λ s. (tt, insert s path (Good d Second))) (lift_files s) r (lift_files t)
-    cases (Ok v) s t k = (refl, ap lift_files k ∙ lift_written s path bytes shadow d w small)
+    cases (Ok v) s t k = (refl, ap lift_files k ∙ lift_written s path bytes shadow d w)
     cases (Err e) s t k = ap lift_files k
 
 pub remove_follows : (path : List ℕ) (x y : Option FileStore) (r : Result (Bool) KeepFault) → Told x y (λ s t. Removes s path r t)

@@ -1,5 +1,5 @@
 -- What lifting a cell gives.
-use Rattle.std.proofs.Common.{◌≡◌, ◌≢◌, ℕ, ℤ, zero, suc, Bool, true, false, List, [], ◌∷◌, length, map, refl, sym, ap, subst, ◌∙◌, arith}
+use Rattle.std.proofs.Common.{◌≡◌, ◌≢◌, ℕ, ℤ, Bool, true, false, List, [], ◌∷◌, length, refl, sym, ap, ◌∙◌, arith}
 use Rattle.std.proofs.lemmas.Bool.{true≢false}
 use Rattle.resin_base.specs.FileStore.{entry_of}
 use Rattle.resin_base.specs.declared.cell.Cell.{Cell}
@@ -7,30 +7,31 @@ use Rattle.resin_base.specs.declared.cell.Cell.TheVariants as cell
 use Rattle.resin_base.specs.declared.cell.Kind.{Kind}
 use Rattle.resin_base.specs.declared.cell.Kind.TheVariants as kind
 use Rattle.resin_base.specs.declared.files.Entry.{Entry}
-use Rattle.resin_base.specs.declared.stored.StoredCell.{StoredCell}
-use Rattle.resin_shadow.specs.Marks.{TextSet, Marks}
-use Rattle.resin_store.specs.Entries.{Marked, plain_bytes, marks, Version, First, Second, written, LabelledEntry, Good, Bad, plain, lift}
-use Rattle.resin_store.specs.Cells.{LabelledCell, Text, Integer, Null, Damaged, stored, plain_cell, lifted_text, one_byte, integer_with, lifted_integer, lifted_cell, lift_cell}
-use Rattle.resin_store.specs.Laws.{IsHeld, Tells, KeepsCells, LiftsTexts, LiftsIntegers}
+use Rattle.resin_shadow.specs.Marks.{TextSet}
+use Rattle.resin_store.specs.Entries.{Marked, plain_bytes, marks, Version, Second, written, LabelledEntry, Good, Bad, plain, lift}
+use Rattle.resin_store.specs.Cells.{LabelledCell, Text, Integer, stored, plain_cell, lifted_text, one_byte, integer_with, lifted_integer, lifted_cell}
+use Rattle.resin_store.specs.Laws.{KeepsCells, LiftsTexts, LiftsIntegers}
 use Rattle.resin_store.proofs.Lifts.{keeps_entries, lifts_good}
 
+abbrev head_of : List ℕ → ℕ
+head_of [] = 0
+head_of (m ∷ ms) = m
+
 -- what one byte is told to be
-one_set : (shadow : List ℕ) (d : Marked) (v : Version) → lift (one_byte shadow) ≡ Good d v → (s : TextSet) × (d ≡ (0, s) ∷ []) × (written v (s ∷ []) ≡ shadow)
+record IsOne (shadow : List ℕ) (d : Marked) (v : Version) : Type 0 where
+  set : TextSet
+  is : d ≡ (0, set) ∷ []
+  text : written v (set ∷ []) ≡ shadow
+
+one_of : (shadow : List ℕ) (v : Version) (d : Marked) → plain_bytes d ≡ 0 ∷ [] → written v (marks d) ≡ shadow → IsOne shadow d v
+one_of shadow v [] b x = absurd (let n = ap length b in omega (arith, n))
+one_of shadow v (c ∷ []) b x = record { set = c.1; is = ap (λ n. (n, c.1) ∷ []) (ap head_of b); text = x }
+one_of shadow v (c ∷ f ∷ d) b x = absurd (let n = ap length b in omega (arith, n))
+
+one_set : (shadow : List ℕ) (d : Marked) (v : Version) → lift (one_byte shadow) ≡ Good d v → IsOne shadow d v
 one_set shadow d v e =
     let p : plain (Good d v) ≡ one_byte shadow = ap plain (sym e) ∙ keeps_entries (one_byte shadow) in
-    cases d (ap (λ (x : Entry). x.bytes) p) (ap (λ (x : Entry). x.shadow) p)
-  where
-    cases : (d : Marked) → plain_bytes d ≡ 0 ∷ [] → written v (marks d) ≡ shadow → (s : TextSet) × (d ≡ (0, s) ∷ []) × (written v (s ∷ []) ≡ shadow)
-    cases [] b x = absurd (let n = ap length b in omega (arith, n))
-    cases (c ∷ []) b x = (c.1, ap (λ n. (n, c.1) ∷ []) (first c.0 b), x)
-      where
-        first : (n : ℕ) → n ∷ [] ≡ 0 ∷ [] → n ≡ 0
-        first n h = ap head h
-          where
-            head : List ℕ → ℕ
-            head [] = 0
-            head (m ∷ ms) = m
-    cases (c ∷ f ∷ d) b x = absurd (let n = ap length b in omega (arith, n))
+    one_of shadow v d (ap (λ (x : Entry). x.bytes) p) (ap (λ (x : Entry). x.shadow) p)
 
 text_back : (bytes shadow : List ℕ) (x : LabelledEntry) → lift (entry_of bytes shadow) ≡ x → plain_cell (lifted_text bytes shadow x) ≡ stored (cell.Text bytes) (cell.Text shadow)
 text_back bytes shadow (Good d v) e =
@@ -41,7 +42,7 @@ text_back bytes shadow (Bad b y) e = refl
 integer_back : (n : ℤ) (shadow : List ℕ) (x : LabelledEntry) → lift (one_byte shadow) ≡ x → plain_cell (lifted_integer n shadow x) ≡ stored (cell.Int n) (cell.Text shadow)
 integer_back n shadow (Good d v) e =
     let o = one_set shadow d v e in
-    ap (λ ds. plain_cell (integer_with n shadow (marks ds) v)) o.1 ∙ ap (λ y. stored (cell.Int n) (cell.Text y)) o.2
+    ap (λ ds. plain_cell (integer_with n shadow (marks ds) v)) o.is ∙ ap (λ y. stored (cell.Int n) (cell.Text y)) o.text
 integer_back n shadow (Bad b y) e = refl
 
 keeps : (k : Kind) (v s : Cell) → plain_cell (lifted_cell k v s) ≡ stored v s
@@ -107,8 +108,8 @@ lifts_texts bytes shadow d v held = (
 integer_from : (n : ℤ) (shadow : List ℕ) (s : TextSet) (v : Version) (x : LabelledEntry) → lift (one_byte shadow) ≡ x → lifted_integer n shadow x ≡ Integer n s v → x ≡ Good ((0, s) ∷ []) v
 integer_from n shadow s v (Good d' v') is e =
     let o = one_set shadow d' v' is in
-    let f : Integer n o.0 v' ≡ Integer n s v = ap (λ ds. integer_with n shadow (marks ds) v') (sym o.1) ∙ e in
-    good_same d' ((0, s) ∷ []) v' v (o.1 ∙ ap (λ t. (0, t) ∷ []) (ap set_in f)) (ap version_in f)
+    let f : Integer n o.set v' ≡ Integer n s v = ap (λ ds. integer_with n shadow (marks ds) v') (sym o.is) ∙ e in
+    good_same d' ((0, s) ∷ []) v' v (o.is ∙ ap (λ (t : TextSet). (0, t) ∷ []) (ap set_in f)) (ap version_in f)
 integer_from n shadow s v (Bad b y) is e = absurd (true≢false (sym (ap is_integer e)))
 
 pub lifts_integers : LiftsIntegers

@@ -1,19 +1,19 @@
 -- What lifting an entry gives.
-use Rattle.std.proofs.Common.{◌≡◌, ◌≢◌, ◌⊎◌, inl, inr, ℕ, zero, suc, ◌^◌, ◌<◌, Bool, true, false, cond, List, [], ◌∷◌, length, map, Option, Some, None, refl, sym, ap, subst, ◌∙◌, arith}
+use Rattle.std.proofs.Common.{◌≡◌, ◌≢◌, ◌⊎◌, inl, inr, ℕ, zero, suc, ◌^◌, ◌<◌, Bool, true, false, cond, List, [], ◌∷◌, length, Option, Some, None, refl, sym, ap, subst, ◌∙◌, arith}
 use Rattle.std.specs.Prelude.{◌&&◌, nat_eq, replicate, zip}
 use Rattle.std.specs.List.{flat_map}
 use Rattle.std.proofs.lemmas.Bool.{true≢false}
 use Rattle.std.proofs.lemmas.List.{length-replicate}
 use Rattle.std.specs.Str.{bytes_eq}
-use Rattle.std.proofs.lemmas.Bool.Decides.{nat_tests}
 use Rattle.std.proofs.lemmas.Slice.Zip.{firsts-zip, seconds-zip}
 use Rattle.resin_base.specs.FileStore.{entry_of}
 use Rattle.resin_base.specs.declared.files.Entry.{Entry}
 use Rattle.resin_frozen.proofs.Numbers.{and_left, and_right, both, text_same, text_is, some_if}
 use Rattle.resin_frozen.proofs.Parts.{bound, on}
-use Rattle.resin_shadow.specs.Marks.{TextSet, IsTextSet, Marks, AreMarks, Each}
+use Rattle.resin_shadow.specs.Marks.{TextSet, Marks, AreMarks}
 use Rattle.resin_shadow.specs.Shadows.{written1, written2, Spells}
-use Rattle.resin_shadow.specs.Readers.{read1, read2}
+use Rattle.resin_shadow.specs.Answers.{Decodes}
+use Rattle.resin_shadow.proofs.First_met.{number_from, number_same}
 use Rattle.resin_shadow.proofs.Versions.{has_one_version}
 use Rattle.resin_shadow.proofs.Whole.{read1_written, read2_written, spells_one}
 use Rattle.resin_store.specs.Entries.{Marked, plain_bytes, marks, unmarked, Version, First, Second, written, LabelledEntry, Good, Bad, plain, read_in, fitting, spelled_in, lifted_by, lift, marks_in}
@@ -37,16 +37,16 @@ same_length : (d : Marked) → length (marks d) ≡ length (plain_bytes d)
 same_length [] = refl
 same_length (b ∷ d) = ap suc (same_length d)
 
-head_none : (s : TextSet) (v w : Marks) → s ∷ v ≡ [] ∷ w → (s ≡ []) × (v ≡ w)
-head_none s v w e = (ap first e, ap rest e)
-  where
-    first : Marks → TextSet
-    first [] = []
-    first (s ∷ v) = s
+abbrev head_of : Marks → TextSet
+head_of [] = []
+head_of (s ∷ v) = s
 
-    rest : Marks → Marks
-    rest [] = []
-    rest (s ∷ v) = v
+abbrev tail_of : Marks → Marks
+tail_of [] = []
+tail_of (s ∷ v) = v
+
+head_none : (s : TextSet) (v w : Marks) → s ∷ v ≡ [] ∷ w → (s ≡ []) × (v ≡ w)
+head_none s v w e = (ap head_of e, ap tail_of e)
 
 unmarked_is : (d : Marked) → marks d ≡ replicate (length (marks d)) [] → d ≡ unmarked (plain_bytes d)
 unmarked_is [] e = refl
@@ -71,6 +71,13 @@ nothing_spelled : (v : Marks) → AreMarks v → Spells [] v → v ≡ replicate
 nothing_spelled v h e =
     spells_one [] v (replicate (length v) []) (omega arith) h (no_marks (length v) h.count) (sym (length-replicate (length v) [])) e (inr (sym (nothing_written (length v))))
 
+nat_false : (n : ℕ) → (n ≡ 0 → ⊥) → nat_eq n 0 ≡ false
+nat_false n z = by (nat_eq n 0) refl
+  where
+    by : (b : Bool) → nat_eq n 0 ≡ b → nat_eq n 0 ≡ false
+    by true e = absurd (z (number_from n 0 e))
+    by false e = e
+
 -- ---- lifting, by whether the shadow text is empty
 pub lift_empty : (e : Entry) → length e.shadow ≡ 0 → lift e ≡ Good (unmarked e.bytes) Second
 unfolding lift
@@ -80,11 +87,7 @@ lift_empty e z =
 pub lift_some : (e : Entry) → (length e.shadow ≡ 0 → ⊥) → lift e ≡ lifted_by e (spelled_in Second (length e.bytes) e.shadow) (spelled_in First (length e.bytes) e.shadow)
 unfolding lift
 lift_some e z =
-    let f : nat_eq (length e.shadow) 0 ≡ false = nat_false (length e.shadow) z in
-    ap (λ b. cond b (Good (unmarked e.bytes) Second) (lifted_by e (spelled_in Second (length e.bytes) e.shadow) (spelled_in First (length e.bytes) e.shadow))) f
-  where
-    nat_false : (n : ℕ) → (n ≡ 0 → ⊥) → nat_eq n 0 ≡ false
-    nat_false n z = grind (arith, nat_tests)
+    ap (λ b. cond b (Good (unmarked e.bytes) Second) (lifted_by e (spelled_in Second (length e.bytes) e.shadow) (spelled_in First (length e.bytes) e.shadow))) (nat_false (length e.shadow) z)
 
 -- ---- what is spelled in one version
 record Spelled (v : Version) (len : ℕ) (x : List ℕ) (w : Marks) : Type 0 where
@@ -101,7 +104,7 @@ spelled_parts v len x w e =
     let t = and_right (nat_eq (length p.0) len) (bytes_eq x (written v p.0)) q.0 in
     record {
       read = p.1 ∙ ap Some q.1;
-      length_is = (let l : length p.0 ≡ len = grind (arith, nat_tests) in ap length (sym q.1) ∙ l);
+      length_is = ap length (sym q.1) ∙ number_from (length p.0) len n;
       text_is = text_is x (written v p.0) t ∙ ap (written v) q.1;
     }
 
@@ -109,10 +112,7 @@ spelled_whole : (v : Version) (len : ℕ) (x : List ℕ) (w : Marks) → Spelled
 unfolding fitting
 spelled_whole v len x w s =
     on (fitting v len x) s.read
-    ∙ ap (λ b. cond b (Some w) None) (both (nat_eq (length w) len) (bytes_eq x (written v w)) (same_number (length w) len s.length_is) (ap (bytes_eq x) (sym s.text_is) ∙ text_same x))
-  where
-    same_number : (a b : ℕ) → a ≡ b → nat_eq a b ≡ true
-    same_number a b e = grind (arith, nat_tests)
+    ∙ ap (λ b. cond b (Some w) None) (both (nat_eq (length w) len) (bytes_eq x (written v w)) (number_same (length w) len s.length_is) (ap (bytes_eq x) (sym s.text_is) ∙ text_same x))
 
 marks_read : (v : Version) (x : List ℕ) (w : Marks) → read_in v x ≡ Some w → AreMarks w
 marks_read First x w e = marks_read1 x w e
@@ -135,8 +135,8 @@ plain_lifted bytes shadow None (Some w) e f = plain_zip bytes shadow First w (sp
 plain_lifted bytes shadow None None e f = refl
 
 number_is : (n : ℕ) (b : Bool) → nat_eq n 0 ≡ b → (n ≡ 0) ⊎ (n ≡ 0 → ⊥)
-number_is n true e = inl (grind (arith, nat_tests))
-number_is n false e = inr (λ z. grind (arith, nat_tests))
+number_is n true e = inl (number_from n 0 e)
+number_is n false e = inr (λ z. true≢false (sym (number_same n 0 z) ∙ e))
 
 abbrev empty_or : (e : Entry) → (length e.shadow ≡ 0) ⊎ (length e.shadow ≡ 0 → ⊥)
 empty_or e = number_is (length e.shadow) (nat_eq (length e.shadow) 0) refl
@@ -159,6 +159,10 @@ marked_of (Bad bytes shadow) = []
 abbrev version_of : LabelledEntry → Version
 version_of (Good d v) = v
 version_of (Bad bytes shadow) = Second
+
+abbrev is_first : Version → Bool
+is_first First = true
+is_first Second = false
 
 abbrev is_good : LabelledEntry → Bool
 is_good (Good d v) = true
@@ -238,14 +242,7 @@ tells_good e d v held h = by (empty_or e)
     none Second h x =
         let u : d ≡ unmarked (plain_bytes d) = unmarked_is d (nothing_spelled (marks d) h.are_marks (inr (sym x ∙ h.spells))) in
         ap (λ ds. Good ds Second) (sym (u ∙ ap unmarked h.bytes_are))
-    none First h x = absurd (other (h.empty x))
-      where
-        other : First ≡ Second → ⊥
-        other e = true≢false (ap is_first e)
-          where
-            is_first : Version → Bool
-            is_first First = true
-            is_first Second = false
+    none First h x = absurd (true≢false (ap is_first (h.empty x)))
 
     by : (length e.shadow ≡ 0) ⊎ (length e.shadow ≡ 0 → ⊥) → lift e ≡ Good d v
     by (inl z) = lift_empty e z ∙ none v h (no_bytes e.shadow z)
@@ -312,3 +309,7 @@ marks_found e w held h s len =
 
 pub marks_missing : (e : Entry) → IsHeld e → SpellsNone e → None ≡ marks_in (lift e)
 marks_missing e held none = ap marks_in (sym ((lifts_bad e held).1 none))
+
+pub found_marks : (e : Entry) (len : ℕ) (x : List ℕ) (found : Option Marks) → IsHeld e → len ≡ length e.bytes → x ≡ e.shadow → ((w : Marks) → found ≡ Some w → AreMarks w) → Decodes len x found → found ≡ marks_in (lift e)
+found_marks e len x (Some w) held n s are d = marks_found e w held (are w refl) (subst (λ y. Spells y w) s d.0) (d.1 ∙ n)
+found_marks e len x None held n s are d = marks_missing e held (λ w h y l. d w h (subst (λ z. Spells z w) (sym s) y) (l ∙ sym n))

@@ -1,12 +1,12 @@
 -- What is read of a shadow text is a list of sets of policy texts.
-use Rattle.std.proofs.Common.{◌≡◌, ◌≢◌, ℕ, zero, suc, ◌+◌, ◌^◌, ◌<◌, Bool, true, false, cond, List, [], ◌∷◌, ◌++◌, length, Option, Some, None, refl, sym, ap, subst, ◌∙◌, arith, length-append}
+use Rattle.std.proofs.Common.{◌≡◌, ℕ, zero, suc, ◌+◌, ◌^◌, ◌<◌, Bool, true, false, cond, List, [], ◌∷◌, ◌++◌, length, Option, Some, None, refl, sym, ap, subst, ◌∙◌, arith, length-append}
 use Rattle.std.specs.Prelude.{nat_eq, nat_lt, replicate, slice_get, codes}
 use Rattle.std.specs.BTreeSet.{insert_key}
-use Rattle.std.specs.List.{fold, flat_map, AllByRecursion}
+use Rattle.std.specs.List.{fold, AllByRecursion}
 use Rattle.std.specs.List.Sorted.{IsStrictlySortedBy}
-use Rattle.std.specs.Ordering.{nat_cmp, ordering_reverse, match_ordering}
+use Rattle.std.specs.Ordering.{ordering_reverse, match_ordering}
 use Rattle.std.specs.Cmp.{IsTotalOrder}
-use Rattle.std.specs.Cmp.Lexicographic.{slice_cmp, nat_list_cmp_total}
+use Rattle.std.specs.Cmp.Lexicographic.{nat_list_cmp_total}
 use Rattle.std.specs.declared.cmp.Ordering.{Ordering}
 use Rattle.std.specs.declared.cmp.Ordering.TheVariants.{Less, Equal, Greater}
 use Rattle.std.proofs.lemmas.Bool.Decides.{nat_tests}
@@ -16,7 +16,7 @@ use Rattle.resin_frozen.specs.Reading.{Read, and_then, literal, cut, number, nat
 use Rattle.resin_frozen.proofs.Numbers.{from_some, none_some}
 use Rattle.resin_frozen.proofs.Parts.{bound}
 use Rattle.resin_frozen.proofs.One_text.{front_read}
-use Rattle.resin_shadow.specs.Marks.{TextSet, IsTextSet, Marks, MarkRun, Each, AreMarks}
+use Rattle.resin_shadow.specs.Marks.{TextSet, IsTextSet, Marks, Each, AreMarks}
 use Rattle.resin_shadow.specs.Runs.{set_of}
 use Rattle.resin_shadow.specs.Readers.{times, policy_step, text_told, texts_told, set_told, words, set_step, run_parts, run_set1, run_set2, longer, pushed, run_step, read1, read2}
 use Rattle.resin_shadow.proofs.Kept.{each_at, each-append}
@@ -37,15 +37,15 @@ policy_kept acc acc' xs ys h e =
     let is = ap (λ (r : List (List ℕ) × List ℕ). r.0) (from_some (acc ++ p.0.0 ∷ [], q.0.1) (acc', ys) q.2) in
     subst (Each IsPolicyText) is (each-append IsPolicyText acc (p.0.0 ∷ []) h ((front_read xs p.0.0 p.0.1 p.1).1, tt))
 
+one_told : (table : List (List ℕ)) (w x : List ℕ) → Each IsPolicyText table → text_told table w ≡ Some x → IsPolicyText x
+unfolding text_told
+one_told table w x t e = let q = bound (number w) (λ n. slice_get table n) x e in each_at IsPolicyText table q.0 x t q.2
+
 told_kept : (table acc : List (List ℕ)) (ws out : List (List ℕ)) → Each IsPolicyText table → Each IsPolicyText acc → texts_told table acc ws ≡ Some out → Each IsPolicyText out
 told_kept table acc [] out t h e = subst (Each IsPolicyText) (from_some acc out e) h
 told_kept table acc (w ∷ ws) out t h e =
     let p = bound (text_told table w) (λ t. texts_told table (acc ++ t ∷ []) ws) out e in
-    told_kept table (acc ++ p.0 ∷ []) ws out t (each-append IsPolicyText acc (p.0 ∷ []) h (one w p.0 p.1, tt)) p.2
-  where
-    one : (w x : List ℕ) → text_told table w ≡ Some x → IsPolicyText x
-    unfolding text_told
-    one w x e = let q = bound (number w) (λ n. slice_get table n) x e in each_at IsPolicyText table q.0 x t q.2
+    told_kept table (acc ++ p.0 ∷ []) ws out t (each-append IsPolicyText acc (p.0 ∷ []) h (one_told table w p.0 t p.1, tt)) p.2
 
 -- ---- sets
 module _ {K : Type 0} {R : K → K → Ordering} (o : IsTotalOrder R) where
@@ -58,23 +58,37 @@ module _ {K : Type 0} {R : K → K → Ordering} (o : IsTotalOrder R) where
 
   below_insert : (x k : K) (ys : List K) → R x k ≡ Less → IsBelow x ys → IsBelow x (insert_key R ys k)
   below_insert x k [] e h = (e, tt)
-  below_insert x k (y ∷ ys) e h = by (R k y)
+  below_insert x k (y ∷ ys) e h = by (R k y) (below_insert x k ys e h.1)
     where
-      by : (r : Ordering) → IsBelow x (match_ordering r (k ∷ y ∷ ys) (y ∷ ys) (y ∷ insert_key R ys k))
-      by Less = (e, h)
-      by Equal = h
-      by Greater = (h.0, below_insert x k ys e h.1)
+      by : (r : Ordering) → IsBelow x (insert_key R ys k) → IsBelow x (match_ordering r (k ∷ y ∷ ys) (y ∷ ys) (y ∷ insert_key R ys k))
+      by Less z = (e, h)
+      by Equal z = h
+      by Greater z = (h.0, z)
+
+  less_put : (y k : K) (ys : List K) → R k y ≡ Less → IsStrictlySortedBy R (y ∷ ys) → IsStrictlySortedBy R (k ∷ y ∷ ys)
+  unfolding IsStrictlySortedBy
+  less_put y k ys e h = ((e, lower k y ys e h.0), h)
+
+  greater_put : (y k : K) (ys : List K) → R k y ≡ Greater → IsStrictlySortedBy R (y ∷ ys) → IsStrictlySortedBy R (insert_key R ys k) → IsStrictlySortedBy R (y ∷ insert_key R ys k)
+  unfolding IsStrictlySortedBy
+  greater_put y k ys e h z = (below_insert y k ys (o.antisymm y k ∙ ap ordering_reverse e) h.0, z)
+
+  tail_sorted : (y : K) (ys : List K) → IsStrictlySortedBy R (y ∷ ys) → IsStrictlySortedBy R ys
+  unfolding IsStrictlySortedBy
+  tail_sorted y ys h = h.1
+
+  one_sorted : (k : K) → IsStrictlySortedBy R (k ∷ [])
+  unfolding IsStrictlySortedBy
+  one_sorted k = (tt, tt)
 
   sorted_insert : (ys : List K) (k : K) → IsStrictlySortedBy R ys → IsStrictlySortedBy R (insert_key R ys k)
-  unfolding IsStrictlySortedBy
-  sorted_insert [] k h = (tt, tt)
-  sorted_insert (y ∷ ys) k h = by (R k y) refl
+  sorted_insert [] k h = one_sorted k
+  sorted_insert (y ∷ ys) k h = by (R k y) refl (sorted_insert ys k (tail_sorted y ys h))
     where
-      by : (r : Ordering) → R k y ≡ r → IsStrictlySortedBy R (match_ordering r (k ∷ y ∷ ys) (y ∷ ys) (y ∷ insert_key R ys k))
-      unfolding IsStrictlySortedBy
-      by Less e = ((e, lower k y ys e h.0), h)
-      by Equal e = h
-      by Greater e = (below_insert y k ys (o.antisymm y k ∙ ap ordering_reverse e) h.0, sorted_insert ys k h.1)
+      by : (r : Ordering) → R k y ≡ r → IsStrictlySortedBy R (insert_key R ys k) → IsStrictlySortedBy R (match_ordering r (k ∷ y ∷ ys) (y ∷ ys) (y ∷ insert_key R ys k))
+      by Less e z = less_put y k ys e h
+      by Equal e z = h
+      by Greater e z = greater_put y k ys e h z
 
   sorted_fold : (ks ys : List K) → IsStrictlySortedBy R ys → IsStrictlySortedBy R (fold (insert_key R) ys ks)
   sorted_fold [] ys h = h
@@ -82,12 +96,12 @@ module _ {K : Type 0} {R : K → K → Ordering} (o : IsTotalOrder R) where
 
   each_insert : (P : K → Type 0) (ys : List K) (k : K) → Each P ys → P k → Each P (insert_key R ys k)
   each_insert P [] k h p = (p, tt)
-  each_insert P (y ∷ ys) k h p = by (R k y)
+  each_insert P (y ∷ ys) k h p = by (R k y) (each_insert P ys k h.1 p)
     where
-      by : (r : Ordering) → Each P (match_ordering r (k ∷ y ∷ ys) (y ∷ ys) (y ∷ insert_key R ys k))
-      by Less = (p, h)
-      by Equal = h
-      by Greater = (h.0, each_insert P ys k h.1 p)
+      by : (r : Ordering) → Each P (insert_key R ys k) → Each P (match_ordering r (k ∷ y ∷ ys) (y ∷ ys) (y ∷ insert_key R ys k))
+      by Less z = (p, h)
+      by Equal z = h
+      by Greater z = (h.0, z)
 
   each_fold : (P : K → Type 0) (ks ys : List K) → Each P ys → Each P ks → Each P (fold (insert_key R) ys ks)
   each_fold P [] ys h p = h
@@ -137,19 +151,26 @@ record AreGood (v : Marks) : Type 0 where
   each : Each IsGood v
   count : length v < 2 ^ 64
 
+below_from : (a b : ℕ) → nat_lt a b ≡ true → a < b
+below_from a b t = grind (arith, nat_tests)
+
 longer_good : (v w : Marks) (n : ℕ) (s : TextSet) → AreGood v → IsGood s → longer v (n, s) ≡ Some w → AreGood w
 unfolding longer
 longer_good v w n s h g e = by (nat_eq n 0) (nat_lt (length v + n) (2 ^ 64)) refl e
   where
+    count : nat_lt (length v + n) (2 ^ 64) ≡ true → length (v ++ replicate n s) < 2 ^ 64
+    count t =
+        let a : length v + n < 2 ^ 64 = below_from (length v + n) (2 ^ 64) t in
+        let b : length (v ++ replicate n s) ≡ length v + length (replicate n s) = length-append v (replicate n s) in
+        let c : length (replicate n s) ≡ n = length-replicate n s in
+        omega (arith, a, b, c)
+
     by : (a b : Bool) → nat_lt (length v + n) (2 ^ 64) ≡ b → cond a None (cond b (Some (v ++ replicate n s)) None) ≡ Some w → AreGood w
     by true b t f = absurd (none_some w f)
     by false false t f = absurd (none_some w f)
     by false true t f = subst AreGood (from_some (v ++ replicate n s) w f) (record {
       each = each-append IsGood v (replicate n s) h.each (each_same IsGood n s g);
-      count = (let a : length v + n < 2 ^ 64 = grind (arith, nat_tests) in
-          let b : length (v ++ replicate n s) ≡ length v + length (replicate n s) = length-append v (replicate n s) in
-          let c : length (replicate n s) ≡ n = length-replicate n s in
-          omega (arith, a, b, c));
+      count = count t;
     })
 
 runs_kept : (told : Option (List ℕ) → Option TextSet) → ((o : Option (List ℕ)) (s : TextSet) → told o ≡ Some s → IsGood s)

@@ -1,5 +1,4 @@
 -- What a keeper of files holds, with the policies of each byte (this project).
-use Rattle.std.specs.Prelude.{ℕ, List}
 use Rattle.std.specs.FinMap.{FinMap}
 use Rattle.resin_base.specs.Contents.{byte_order}
 use Rattle.resin_base.specs.FileStore.{FileStore}

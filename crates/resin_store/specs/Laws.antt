@@ -8,9 +8,9 @@ use Rattle.resin_base.specs.declared.files.Entry.{Entry}
 use Rattle.resin_base.specs.declared.stored.StoredCell.{StoredCell}
 use Rattle.resin_shadow.specs.Marks.{TextSet, Marks, AreMarks}
 use Rattle.resin_shadow.specs.Shadows.{Spells, written2}
-use Rattle.resin_store.specs.Entries.{Marked, plain_bytes, marks, Version, First, Second, written, LabelledEntry, Good, Bad, plain, lift}
+use Rattle.resin_store.specs.Entries.{Marked, plain_bytes, marks, Version, Second, written, Good, Bad, plain, lift}
 use Rattle.resin_store.specs.Files.{lift_files, plain_files}
-use Rattle.resin_store.specs.Cells.{LabelledCell, Text, Integer, stored, plain_cell, one_byte, lift_cell}
+use Rattle.resin_store.specs.Cells.{Text, Integer, stored, plain_cell, one_byte, lift_cell}
 
 -- a keeper holds of a lifted entry what it held
 abbrev pub KeepsEntries : Type 0

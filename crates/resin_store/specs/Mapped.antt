@@ -1,5 +1,5 @@
 -- A finite map with each of its values changed.
-use Rattle.std.specs.Prelude.{List, map}
+use Rattle.std.specs.Prelude.{map}
 use Rattle.std.specs.FinMap.{FinMap, entries, from_sorted}
 use Rattle.std.specs.declared.cmp.Ordering.{Ordering}
 

@@ -11,9 +11,14 @@ use std::alloc::{AllocError, Global};
 pub fn policies_of(alloc: Global, entry: &Entry) -> Result<Option<FrozenRuns>, AllocError>
     ensures { IfOk result (λ found. found ≡ marks_in (lift entry.now)) }
 {
-    decode(
-        alloc,
-        entry.bytes.as_slice().len() as u64,
-        entry.shadow.as_slice(),
-    )
+    let bytes = entry.bytes.as_slice();
+    let shadow = entry.shadow.as_slice();
+    let len = bytes.len() as u64;
+    match decode(alloc, len, shadow)? {
+        Some(runs) => {
+            prove!(runs.len() == len);
+            Ok(Some(runs))
+        }
+        None => Ok(None),
+    }
 }
