@@ -2,7 +2,7 @@
 use Rattle.std.proofs.Common.{◌≡◌, ◌≢◌, ℕ, suc, ◌-◌, ◌<◌, ◌≤◌, List, length, Result, Ok, Err, refl, sym, ◌∙◌, subst, arith, Bor, IsErrAnd}
 use Rattle.std.proofs.lemmas.Result.{err_from_is_err_and}
 use Rattle.std.specs.Prelude.{OnOk}
-use Rattle.resin_eval_calls.specs.Under.base.FileStore.{FileStore}
+use Rattle.resin_eval_calls.specs.Under.store.Files.{LabelledFiles}
 use Rattle.resin_eval_calls.specs.Under.base.TableStore.{TableStore}
 use Rattle.resin_eval_calls.specs.Under.base.declared.calls.Calls.{Calls}
 use Rattle.resin_eval_calls.specs.Under.scalar.declared.faults.ScriptFault.TheVariants.{DepthSpent}
@@ -36,17 +36,17 @@ use Rattle.resin_eval_calls.specs.Under.eval_nested.declared.nested.Nested.TheVa
 use Rattle.resin_eval_calls.specs.Under.eval_nested.declared.nested.Outcome.{Outcome}
 use Rattle.resin_eval_calls.proofs.eval_nested_lemmas.Arms.{does_faulted}
 
-shut_expr : (room : ℕ) (e : Expr) (m : State) {f : Seen FileStore} {t : Seen TableStore} {c : Calls} {s : Stop} → room ≡ 0 → s ≡ Fault DepthSpent m.line → Does ((evals room).expr e) (world m f t c) (Err s) (world m f t c)
+shut_expr : (room : ℕ) (e : Expr) (m : State) {f : Seen LabelledFiles} {t : Seen TableStore} {c : Calls} {s : Stop} → room ≡ 0 → s ≡ Fault DepthSpent m.line → Does ((evals room).expr e) (world m f t c) (Err s) (world m f t c)
 shut_expr room e m h k = rw h (unfold evals in does_faulted DepthSpent m k)
 
-shut_soft : (room : ℕ) (e : Expr) (m : State) {f : Seen FileStore} {t : Seen TableStore} {c : Calls} {s : Stop} → room ≡ 0 → s ≡ Fault DepthSpent m.line → Does ((evals room).soft e) (world m f t c) (Err s) (world m f t c)
+shut_soft : (room : ℕ) (e : Expr) (m : State) {f : Seen LabelledFiles} {t : Seen TableStore} {c : Calls} {s : Stop} → room ≡ 0 → s ≡ Fault DepthSpent m.line → Does ((evals room).soft e) (world m f t c) (Err s) (world m f t c)
 shut_soft room e m h k = rw h (unfold evals in does_faulted DepthSpent m k)
 
-shut_stmt : (room : ℕ) (s : Stmt) (m : State) {f : Seen FileStore} {t : Seen TableStore} {c : Calls} {e : Stop} → room ≡ 0 → e ≡ Fault DepthSpent m.line → Does ((evals room).stmt s) (world m f t c) (Err e) (world m f t c)
+shut_stmt : (room : ℕ) (s : Stmt) (m : State) {f : Seen LabelledFiles} {t : Seen TableStore} {c : Calls} {e : Stop} → room ≡ 0 → e ≡ Fault DepthSpent m.line → Does ((evals room).stmt s) (world m f t c) (Err e) (world m f t c)
 shut_stmt room s m h k = rw h (unfold evals in does_faulted DepthSpent m k)
 
 -- no further evaluation may be open
-pub shut : (room : ℕ) (n : Nested) (m : State) (f : Seen FileStore) (t : Seen TableStore) (c : Calls) {s : Stop} → ((src : Bor (List ℕ)) → n ≡ Source src → ⊥) → room ≡ 0 → s ≡ Fault DepthSpent m.line → Ends room n (world m f t c) (Err s) (world m f t c)
+pub shut : (room : ℕ) (n : Nested) (m : State) (f : Seen LabelledFiles) (t : Seen TableStore) (c : Calls) {s : Stop} → ((src : Bor (List ℕ)) → n ≡ Source src → ⊥) → room ≡ 0 → s ≡ Fault DepthSpent m.line → Ends room n (world m f t c) (Err s) (world m f t c)
 shut room (ForValue e) m f t c ne h k = shut_expr room e.now m h k
 shut room (Asked e) m f t c ne h k = shut_soft room e.now m h k
 shut room (Statement s) m f t c ne h k = shut_stmt room s.now m h k

@@ -5,7 +5,7 @@ ghost use Rattle.resin_eval_calls.specs.Under.meaning_forms.Inputs.{set_inputs a
 ghost use Rattle.resin_eval_calls.specs.Under.meaning_forms.Programs.{evals, function_call, most_open, program};
 ghost use Rattle.resin_interp.specs.Lent.{lent};
 ghost use Rattle.resin_interp.specs.Pages.{end_buffers as buffers_ended, read_named, write_page as page_written};
-ghost use Rattle.resin_eval_calls.specs.Under.meaning.Runs.{Does, seen, world};
+ghost use Rattle.resin_eval_calls.specs.Under.meaning.Runs.{Does, files_seen, seen, world};
 ghost use Rattle.std.specs.Fn.{FnOnceReturnsAtMut};
 ghost use Rattle.std.specs.Prelude.{false, ◌≡◌};
 
@@ -77,7 +77,7 @@ pub fn run_program<F: Files, T: Tables>(
     tables: &mut T,
     calls: &mut Calls,
 ) -> Result<Flow, Stop>
-    ensures { Does (program p.now) (world m.old (seen (F.stored files.old) (F.faults files.old) (F.answers files.old)) (seen (T.stored tables.old) (T.faults tables.old) (T.answers tables.old)) calls.old) result (world m.new (seen (F.stored files.new) (F.faults files.new) (F.answers files.new)) (seen (T.stored tables.new) (T.faults tables.new) (T.answers tables.new)) calls.new) }
+    ensures { Does (program p.now) (world m.old (files_seen (F.stored files.old) (F.faults files.old) (F.answers files.old)) (seen (T.stored tables.old) (T.faults tables.old) (T.answers tables.old)) calls.old) result (world m.new (files_seen (F.stored files.new) (F.faults files.new) (F.answers files.new)) (seen (T.stored tables.new) (T.faults tables.new) (T.answers tables.new)) calls.new) }
 {
     with_run(m, files, tables, calls, |run| perform(alloc, run, p))
 }
@@ -93,7 +93,7 @@ pub fn call_function<F: Files, T: Tables>(
     tables: &mut T,
     calls: &mut Calls,
 ) -> Result<Value, Stop>
-    ensures { Does (function_call name.now args.now) (world m.old (seen (F.stored files.old) (F.faults files.old) (F.answers files.old)) (seen (T.stored tables.old) (T.faults tables.old) (T.answers tables.old)) calls.old) result (world m.new (seen (F.stored files.new) (F.faults files.new) (F.answers files.new)) (seen (T.stored tables.new) (T.faults tables.new) (T.answers tables.new)) calls.new) }
+    ensures { Does (function_call name.now args.now) (world m.old (files_seen (F.stored files.old) (F.faults files.old) (F.answers files.old)) (seen (T.stored tables.old) (T.faults tables.old) (T.answers tables.old)) calls.old) result (world m.new (files_seen (F.stored files.new) (F.faults files.new) (F.answers files.new)) (seen (T.stored tables.new) (T.faults tables.new) (T.answers tables.new)) calls.new) }
 {
     with_run(
         m,
@@ -117,7 +117,7 @@ pub fn read_through<F: Files, T: Tables>(
     calls: &mut Calls,
 ) -> Result<LText, Stop>
     requires { is_leaving channel ≡ false }
-    ensures { Does (read_named channel path.now text.now) (world m.old (seen (F.stored files.old) (F.faults files.old) (F.answers files.old)) (seen (T.stored tables.old) (T.faults tables.old) (T.answers tables.old)) calls.old) result (world m.new (seen (F.stored files.new) (F.faults files.new) (F.answers files.new)) (seen (T.stored tables.new) (T.faults tables.new) (T.answers tables.new)) calls.new) }
+    ensures { Does (read_named channel path.now text.now) (world m.old (files_seen (F.stored files.old) (F.faults files.old) (F.answers files.old)) (seen (T.stored tables.old) (T.faults tables.old) (T.answers tables.old)) calls.old) result (world m.new (files_seen (F.stored files.new) (F.faults files.new) (F.answers files.new)) (seen (T.stored tables.new) (T.faults tables.new) (T.answers tables.new)) calls.new) }
 {
     with_run(
         m,
@@ -137,7 +137,7 @@ pub fn write_page<F: Files, T: Tables>(
     tables: &mut T,
     calls: &mut Calls,
 ) -> Result<(), Stop>
-    ensures { Does (page_written text.now) (world m.old (seen (F.stored files.old) (F.faults files.old) (F.answers files.old)) (seen (T.stored tables.old) (T.faults tables.old) (T.answers tables.old)) calls.old) result (world m.new (seen (F.stored files.new) (F.faults files.new) (F.answers files.new)) (seen (T.stored tables.new) (T.faults tables.new) (T.answers tables.new)) calls.new) }
+    ensures { Does (page_written text.now) (world m.old (files_seen (F.stored files.old) (F.faults files.old) (F.answers files.old)) (seen (T.stored tables.old) (T.faults tables.old) (T.answers tables.old)) calls.old) result (world m.new (files_seen (F.stored files.new) (F.faults files.new) (F.answers files.new)) (seen (T.stored tables.new) (T.faults tables.new) (T.answers tables.new)) calls.new) }
 {
     with_run(
         m,
@@ -160,7 +160,7 @@ pub fn set_inputs<F: Files, T: Tables>(
     tables: &mut T,
     calls: &mut Calls,
 ) -> Result<(), Stop>
-    ensures { Does (inputs_set (evals most_open) get.now post.now cookie.now server.now) (world m.old (seen (F.stored files.old) (F.faults files.old) (F.answers files.old)) (seen (T.stored tables.old) (T.faults tables.old) (T.answers tables.old)) calls.old) result (world m.new (seen (F.stored files.new) (F.faults files.new) (F.answers files.new)) (seen (T.stored tables.new) (T.faults tables.new) (T.answers tables.new)) calls.new) }
+    ensures { Does (inputs_set (evals most_open) get.now post.now cookie.now server.now) (world m.old (files_seen (F.stored files.old) (F.faults files.old) (F.answers files.old)) (seen (T.stored tables.old) (T.faults tables.old) (T.answers tables.old)) calls.old) result (world m.new (files_seen (F.stored files.new) (F.faults files.new) (F.answers files.new)) (seen (T.stored tables.new) (T.faults tables.new) (T.answers tables.new)) calls.new) }
 {
     with_run(
         m,
@@ -180,7 +180,7 @@ pub fn end_buffers<F: Files, T: Tables>(
     tables: &mut T,
     calls: &mut Calls,
 ) -> Result<(), Stop>
-    ensures { Does buffers_ended (world m.old (seen (F.stored files.old) (F.faults files.old) (F.answers files.old)) (seen (T.stored tables.old) (T.faults tables.old) (T.answers tables.old)) calls.old) result (world m.new (seen (F.stored files.new) (F.faults files.new) (F.answers files.new)) (seen (T.stored tables.new) (T.faults tables.new) (T.answers tables.new)) calls.new) }
+    ensures { Does buffers_ended (world m.old (files_seen (F.stored files.old) (F.faults files.old) (F.answers files.old)) (seen (T.stored tables.old) (T.faults tables.old) (T.answers tables.old)) calls.old) result (world m.new (files_seen (F.stored files.new) (F.faults files.new) (F.answers files.new)) (seen (T.stored tables.new) (T.faults tables.new) (T.answers tables.new)) calls.new) }
 {
     with_run(
         m,

@@ -3,10 +3,10 @@ use Rattle.std.proofs.Common.{◌≡◌, ℕ, List, [], ◌∷◌, take, length,
 use Rattle.std.specs.Prelude.{get_or}
 use Rattle.std.specs.List.{prefix_len}
 use Rattle.std.proofs.Math.Seq.{take-length}
-use Rattle.resin_heap.specs.Under.scan.Bytes.{begins_name, is_name_byte}
-use Rattle.resin_heap.specs.Under.scan.Lists.{Every}
-use Rattle.resin_heap.specs.Under.scan.Words.{IsName}
-use Rattle.resin_heap.proofs.scan_lemmas.Runs.{every_run}
+use Rattle.resin_scan.specs.Bytes.{begins_name, is_name_byte}
+use Rattle.resin_scan.specs.Lists.{Every}
+use Rattle.resin_scan.specs.Words.{IsName}
+use Rattle.resin_scan.proofs.Runs.{every_run}
 
 every : (bs : List ℕ) → prefix_len is_name_byte bs ≡ length bs → Every is_name_byte bs
 every bs e = subst (λ xs. Every is_name_byte xs) (ap (λ n. take n bs) e ∙ take-length bs) (every_run is_name_byte bs)

@@ -1,13 +1,13 @@
 //! Classes that a row declares.
 ghost use Rattle.std.specs.Prelude.{IsTrue};
-ghost use Rattle.resin_heap.specs.Under.scan.Words.{IsName};
+ghost use Rattle.resin_scan.specs.Words.{IsName};
 
 use crate::fields::bytes_in;
 use crate::stop::Stop;
 use resin_step_parts::under::machine::Machine;
 use resin_step_parts::under::tree::{ClassDecl, Items, Name, Shared, SharedBytes};
 use std::alloc::Global;
-use resin_heap::under::scan::bytes::{begins_name, byte, name_len};
+use resin_scan::bytes::{begins_name, byte, name_len};
 
 #[tactic(auto, using(crate::proofs::Names::named))]
 fn is_name(bytes: &[u8]) -> bool

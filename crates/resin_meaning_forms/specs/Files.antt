@@ -8,7 +8,7 @@ use Rattle.resin_target.specs.Under.journal.declared.channel.Channel.TheVariants
 use Rattle.resin_builtin.specs.Under.scalar.declared.faults.ScriptFault.TheVariants.{BadShadow, TextTooLong}
 use Rattle.resin_builtin.specs.Under.value.Trees.{Tree, boolean, integer, text}
 use Rattle.resin_target.specs.Under.heap.declared.prelude.PreludeClass.TheVariants.{ValueError}
-use Rattle.resin_store.specs.Entries.{Marked, LabelledEntry, Good, Bad}
+use Rattle.resin_meaning.specs.Under.store.Entries.{Marked, LabelledEntry, Good, Bad}
 use Rattle.resin_meaning.specs.Programs.{Prog, give, ◌>>=◌}
 use Rattle.resin_meaning.specs.KeeperCalls.{read_file, write_file, remove_file, file_exists}
 use Rattle.resin_meaning_forms.specs.Parts.{Evals, faulted, thrown_new, ◌>>◌}

@@ -13,7 +13,7 @@ use Rattle.resin_target.specs.Under.tree.declared.expression.Import.TheVariants.
 use Rattle.resin_target.specs.Under.heap.declared.prelude.PreludeClass.TheVariants.{Error}
 use Rattle.resin_target.specs.Under.machine.Filters.{is_imported, import_path}
 use Rattle.resin_target.specs.Under.machine.Steps.{awake}
-use Rattle.resin_store.specs.Entries.{LabelledEntry}
+use Rattle.resin_meaning.specs.Under.store.Entries.{LabelledEntry}
 use Rattle.resin_meaning.specs.Programs.{Prog, give, act, ◌>>=◌}
 use Rattle.resin_meaning.specs.KeeperCalls.{read_file}
 use Rattle.resin_meaning_forms.specs.declared.course.Course.{Course}

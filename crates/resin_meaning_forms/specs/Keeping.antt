@@ -24,7 +24,7 @@ use Rattle.resin_frozen.specs.Reading.{Said, said}
 use Rattle.resin_shadow.specs.Marks.{TextSet, Marks, policies}
 use Rattle.resin_shadow.specs.Shadows.{places}
 use Rattle.resin_shadow.specs.Runs.{set_of}
-use Rattle.resin_store.specs.Entries.{Marked, LabelledEntry, Good, Bad, marks}
+use Rattle.resin_meaning.specs.Under.store.Entries.{Marked, LabelledEntry, Good, Bad, marks}
 use Rattle.resin_meaning_forms.specs.Parts.{faulted, looked, ◌>>◌}
 
 -- ---- freezing: what is kept of the policies of a text

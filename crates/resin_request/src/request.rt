@@ -1,7 +1,7 @@
 //! One request.
 ghost use Rattle.std.specs.Prelude.{Some};
 ghost use Rattle.resin_inputs.specs.Under.lstr.Texts.{bytes_of};
-ghost use Rattle.resin_interp.specs.Under.meaning.Runs.{Does, seen, world};
+ghost use Rattle.resin_interp.specs.Under.meaning.Runs.{Does, files_seen, seen, world};
 ghost use Rattle.resin_interp.specs.Under.eval_nested.Running.{Performs};
 ghost use Rattle.resin_interp.specs.Under.store.Entries.{lift};
 ghost use Rattle.resin_request.specs.Requests.{put_inputs, request_program, run_boot, run_found, run_script, send_file, serve_file, serve_found};
@@ -182,8 +182,8 @@ pub fn run_request<F: Files, T: Tables>(
     calls: &mut Calls,
 ) -> Result<Finish, Stop>
     ensures { Does (request_program path.now inputs)
-        (world m.old (seen (F.stored files.old) (F.faults files.old) (F.answers files.old)) (seen (T.stored tables.old) (T.faults tables.old) (T.answers tables.old)) calls.old) result
-        (world m.new (seen (F.stored files.new) (F.faults files.new) (F.answers files.new)) (seen (T.stored tables.new) (T.faults tables.new) (T.answers tables.new)) calls.new) }
+        (world m.old (files_seen (F.stored files.old) (F.faults files.old) (F.answers files.old)) (seen (T.stored tables.old) (T.faults tables.old) (T.answers tables.old)) calls.old) result
+        (world m.new (files_seen (F.stored files.new) (F.faults files.new) (F.answers files.new)) (seen (T.stored tables.new) (T.faults tables.new) (T.answers tables.new)) calls.new) }
 {
     with_run(
         m,

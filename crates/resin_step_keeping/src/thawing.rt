@@ -1,5 +1,5 @@
 //! What a read makes of an entry.
-ghost use Rattle.resin_store.specs.Entries.{lift, marks, plain_bytes, Marked};
+ghost use Rattle.resin_step_parts.specs.Under.store.Entries.{lift, marks, plain_bytes, Marked};
 ghost use Rattle.resin_step_parts.specs.Under.heap.declared.prelude.PreludeClass.TheVariants.{LostPolicy};
 ghost use Rattle.resin_step_parts.specs.Under.meaning_forms.Keeping as meaning;
 ghost use Rattle.resin_step_parts.specs.Under.meaning_forms.Runs.{Runs, on_ok};
@@ -16,7 +16,7 @@ use resin_step_parts::under::lstr::{LText, MAX_LEN};
 use resin_step_parts::under::machine::{Machine, Stop};
 use resin_step_parts::under::scalar::ScriptFault;
 use resin_step_parts::under::value::{Arr, Key, Value};
-use resin_store::policies_of;
+use resin_step_parts::under::store::policies_of;
 use std::alloc::Global;
 
 /// The text that a read makes of an entry: its bytes, each with an object for each of its policies. TextTooLong comes exactly where there are more than

@@ -1,15 +1,12 @@
 -- The labelled store follows what a keeper of files does.
-use Rattle.std.proofs.Common.{◌≡◌, ℕ, ◌^◌, ◌<◌, List, length, Option, refl, sym, ap, ◌∙◌}
+use Rattle.std.proofs.Common.{◌≡◌, ℕ, ◌^◌, ◌<◌, List, length, Option, ap, subst, ◌∙◌}
 use Rattle.std.specs.Option.{option_map}
 use Rattle.std.specs.Ordering.{nat_cmp}
 use Rattle.std.specs.Cmp.Lexicographic.{nat_list_cmp_total}
 use Rattle.std.specs.FinMap.{get, insert, remove, contains_key, nat_cmp-IsAntisymmetric, slice_cmp-IsAntisymmetric, IsAntisymmetric}
 use Rattle.resin_base.specs.Contents.{byte_order}
 use Rattle.resin_base.specs.FileStore.{FileStore, entry_of, with_entry}
-use Rattle.resin_base.specs.declared.files.Entry.{Entry}
-use Rattle.resin_shadow.specs.Marks.{AreMarks}
-use Rattle.resin_shadow.specs.Shadows.{written2}
-use Rattle.resin_store.specs.Entries.{Marked, marks, Second, LabelledEntry, Good, plain, lift}
+use Rattle.resin_store.specs.Entries.{Marked, plain_bytes, marks, Second, AreWritten, LabelledEntry, Good, plain, lift}
 use Rattle.resin_store.specs.Files.{LabelledFiles, lift_files, plain_files}
 use Rattle.resin_store.specs.Laws.{KeepsFiles}
 use Rattle.resin_store.proofs.Maps.{get-mapped, contains-mapped, mapped-insert, mapped-remove, mapped_back}
@@ -32,11 +29,9 @@ pub lift_remove : (s : FileStore) (path : List ℕ) → lift_files (remove s pat
 lift_remove s path = mapped-remove byte_order lift nat_list_cmp_total paths_same s path
 
 -- what is written
-pub lift_written : (s : FileStore) (path bytes shadow : List ℕ) (d : Marked) → AreMarks (marks d) → plain (Good d Second) ≡ entry_of bytes shadow → length shadow < 2 ^ 64
+pub lift_written : (s : FileStore) (path bytes shadow : List ℕ) (d : Marked) → AreWritten bytes shadow d → length shadow < 2 ^ 64
     → lift_files (with_entry s path bytes shadow) ≡ insert (lift_files s) path (Good d Second)
-lift_written s path bytes shadow d h is small =
+lift_written s path bytes shadow d w small =
     mapped-insert byte_order lift nat_list_cmp_total paths_same s path (entry_of bytes shadow)
-    ∙ ap (insert (lift_files s) path) (ap lift (sym is) ∙ lifts_written d h (short (ap (λ (e : Entry). e.shadow) is)))
-  where
-    short : written2 (marks d) ≡ shadow → length (written2 (marks d)) < 2 ^ 64
-    short e = Rattle.std.proofs.Common.subst (λ (x : List ℕ). length x < 2 ^ 64) (sym e) small
+    ∙ ap (insert (lift_files s) path) (ap (λ bs. lift (entry_of bs shadow)) w.bytes_are ∙ ap (λ x. lift (entry_of (plain_bytes d) x)) w.shadow_is
+    ∙ lifts_written d w.are_marks (subst (λ (x : List ℕ). length x < 2 ^ 64) w.shadow_is small))

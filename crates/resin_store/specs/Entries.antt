@@ -1,5 +1,5 @@
 -- Entries with their policies: bytes that each carry a set of policy texts, in place of bytes beside a shadow text (this project).
-use Rattle.std.specs.Prelude.{◌≡◌, ℕ, ◌<◌, ◌^◌, Bool, true, false, ◌&&◌, nat_eq, List, [], ◌∷◌, length, map, zip, Option, Some, None, if◌then◌else◌}
+use Rattle.std.specs.Prelude.{◌≡◌, ℕ, ◌&&◌, nat_eq, List, [], length, map, zip, Option, Some, None, if◌then◌else◌}
 use Rattle.std.specs.Str.{bytes_eq}
 use Rattle.resin_base.specs.FileStore.{entry_of}
 use Rattle.resin_base.specs.declared.files.Entry.{Entry}
@@ -68,6 +68,12 @@ unfoldable pub lift : Entry → LabelledEntry
 lift e =
     if nat_eq (length e.shadow) 0 then Good (unmarked e.bytes) Second else
     lifted_by e (spelled_in Second (length e.bytes) e.shadow) (spelled_in First (length e.bytes) e.shadow)
+
+-- these bytes and this shadow text are what a keeper is to hold of marked bytes: the shadow text is of the second version
+pub record AreWritten (bytes shadow : List ℕ) (d : Marked) : Type 0 where
+  pub are_marks : AreMarks (marks d)
+  pub bytes_are : bytes ≡ plain_bytes d
+  pub shadow_is : shadow ≡ written2 (marks d)
 
 -- the sets of the bytes, where the entry is good
 abbrev pub marks_in : LabelledEntry → Option Marks

@@ -1,11 +1,16 @@
 -- Laws of the labelled store.
-use Rattle.std.specs.Prelude.{◌≡◌, ◌↔◌, ℕ, ◌<◌, ◌^◌, List, [], length}
-use Rattle.resin_base.specs.FileStore.{FileStore}
+use Rattle.std.specs.Prelude.{◌≡◌, ◌↔◌, ℕ, ℤ, ◌<◌, ◌^◌, List, [], ◌∷◌, length}
+use Rattle.resin_base.specs.FileStore.{FileStore, entry_of}
+use Rattle.resin_base.specs.declared.cell.Cell.TheVariants as cell
+use Rattle.resin_base.specs.declared.cell.Kind.{Kind}
+use Rattle.resin_base.specs.declared.cell.Kind.TheVariants as kind
 use Rattle.resin_base.specs.declared.files.Entry.{Entry}
-use Rattle.resin_shadow.specs.Marks.{Marks, AreMarks}
+use Rattle.resin_base.specs.declared.stored.StoredCell.{StoredCell}
+use Rattle.resin_shadow.specs.Marks.{TextSet, Marks, AreMarks}
 use Rattle.resin_shadow.specs.Shadows.{Spells, written2}
 use Rattle.resin_store.specs.Entries.{Marked, plain_bytes, marks, Version, First, Second, written, LabelledEntry, Good, Bad, plain, lift}
 use Rattle.resin_store.specs.Files.{lift_files, plain_files}
+use Rattle.resin_store.specs.Cells.{LabelledCell, Text, Integer, stored, plain_cell, one_byte, lift_cell}
 
 -- a keeper holds of a lifted entry what it held
 abbrev pub KeepsEntries : Type 0
@@ -42,3 +47,19 @@ LiftsBad = (e : Entry) → IsHeld e → (lift e ≡ Bad e.bytes e.shadow) ↔ Sp
 -- what is written in the second version is read as what it was
 abbrev pub LiftsWritten : Type 0
 LiftsWritten = (d : Marked) → AreMarks (marks d) → length (written2 (marks d)) < 2 ^ 64 → lift (plain (Good d Second)) ≡ Good d Second
+
+-- a keeper holds of a lifted cell what it held
+abbrev pub KeepsCells : Type 0
+KeepsCells = (k : Kind) (c : StoredCell) → plain_cell (lift_cell k c) ≡ c
+
+-- a text is good exactly by what its shadow text tells
+abbrev pub LiftsTexts : Type 0
+LiftsTexts =
+    (bytes shadow : List ℕ) (d : Marked) (v : Version) → IsHeld (entry_of bytes shadow)
+    → (lift_cell kind.Text (stored (cell.Text bytes) (cell.Text shadow)) ≡ Text d v) ↔ Tells (entry_of bytes shadow) d v
+
+-- and so is an integer, as one byte
+abbrev pub LiftsIntegers : Type 0
+LiftsIntegers =
+    (n : ℤ) (shadow : List ℕ) (s : TextSet) (v : Version) → IsHeld (one_byte shadow)
+    → (lift_cell kind.Integer (stored (cell.Int n) (cell.Text shadow)) ≡ Integer n s v) ↔ Tells (one_byte shadow) ((0, s) ∷ []) v

@@ -5,4 +5,4 @@ mod entries;
 mod laws;
 
 pub use entries::policies_of;
-pub use laws::store_laws;
+pub use laws::{cell_laws, store_laws};
