@@ -3,5 +3,8 @@
 pub use resin_eval_functions as eval_functions;
 pub use resin_eval_functions::under::eval_merges;
 pub use resin_eval_writes as eval_writes;
-pub use resin_eval_writes::under::{base, bytes, eval_nested, heap, items, journal, label, lstr, machine, meaning_forms, ops, scalar, step_objects, step_parts, store, tree, value};
+pub use resin_eval_writes::under::{
+    base, bytes, eval_nested, heap, items, journal, label, lstr, machine, meaning_forms, ops,
+    scalar, step_objects, step_parts, store, tree, value,
+};
 pub use resin_step_keeping as step_keeping;

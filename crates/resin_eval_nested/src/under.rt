@@ -1,4 +1,7 @@
 //! What this crate stands on, passed on to the crates above, which list this one alone.
 
 pub use resin_step_objects as step_objects;
-pub use resin_step_objects::under::{base, bytes, heap, items, journal, label, lstr, machine, meaning_forms, ops, scalar, step_parts, store, target, tree, value};
+pub use resin_step_objects::under::{
+    base, bytes, heap, items, journal, label, lstr, machine, meaning_forms, ops, scalar,
+    step_parts, store, target, tree, value,
+};

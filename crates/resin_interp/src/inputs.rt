@@ -72,12 +72,7 @@ impl<
     N: Fn(Global, u32, Nested<'_>, &mut Run<F, T>) -> Result<Outcome, Stop> + Copy,
 > Inputs<'_, F, T, N> {
     // A text as its filters give it; another value stays.
-    fn filtered_text(
-        &self,
-        run: &mut Run<F, T>,
-        context: &Value,
-        v: &Value,
-    ) -> Result<Value, Stop>
+    fn filtered_text(&self, run: &mut Run<F, T>, context: &Value, v: &Value) -> Result<Value, Stop>
         requires { Nests F.Files T.Tables N.pre N.post self.now.by.now }
         ensures { Performs F.Files T.Tables (inputs.filtered_text (means self.now.by.now) context.now (tree_of v.now)) run.old (on_ok tree_of result) run.new }
     {

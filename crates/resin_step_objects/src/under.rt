@@ -1,4 +1,7 @@
 //! What this crate stands on, passed on to the crates above, which list this one alone.
 
 pub use resin_step_parts as step_parts;
-pub use resin_step_parts::under::{base, bytes, heap, items, journal, label, lstr, machine, meaning, meaning_forms, ops, scalar, store, target, tree, value};
+pub use resin_step_parts::under::{
+    base, bytes, heap, items, journal, label, lstr, machine, meaning, meaning_forms, ops, scalar,
+    store, target, tree, value,
+};
