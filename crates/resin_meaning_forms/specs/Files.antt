@@ -72,7 +72,7 @@ put_data ev path t flags = do
   give (integer (pos (length kept)) no_labels)
 
 abbrev pub put_contents : Evals → List ℕ → LabelledText → ℤ → Prog Tree
-put_contents ev path data flags = at_lawful path (if is_flag flags then put_data ev path t flags else thrown_new ValueError)
+put_contents ev path t flags = at_lawful path (if is_flag flags then put_data ev path t flags else thrown_new ValueError)
 
 -- ---- unlink, file_exists
 
