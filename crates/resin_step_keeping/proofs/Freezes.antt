@@ -22,13 +22,13 @@ use Rattle.resin_step_parts.specs.Under.machine.declared.stop.Stop.TheVariants.{
 use Rattle.resin_step_parts.specs.Under.machine.State.{State}
 use Rattle.resin_step_parts.specs.Under.meaning_forms.Keeping.{each_of, frozen_policy, frozen_set, frozen_marks, or_not_storable, freeze_text}
 use Rattle.resin_step_parts.specs.Under.meaning_forms.Parts.{looked}
-use Rattle.resin_step_parts.specs.Under.meaning_forms.Runs.{Runs}
+use Rattle.resin_step_parts.specs.Under.meaning_forms.Runs.{Runs, on_ok}
 use Rattle.resin_step_parts.proofs.meaning_lemmas.Composition.{does_next, does_give, does_unbegun_exit, front}
 use Rattle.resin_step_parts.proofs.Answered.{does_looked}
 use Rattle.resin_step_parts.proofs.Steps.{does_faulted, does_handed}
 use Rattle.resin_step_keeping.specs.Sets.{Covers, Stores, AreFrozen}
 use Rattle.resin_step_keeping.proofs.Spelled.{none_some, some_is, slice-front, spelled-push, run_is, all-append, both_true, first_of_same}
-use Rattle.resin_step_keeping.proofs.Answers_of.{each-map, spelled-each, all_there, not_missing}
+use Rattle.resin_step_keeping.proofs.Answers_of.{each-map, spelled-each, all_there, not_missing, each_missing}
 
 -- ---- the sets and the runs of a text
 
@@ -152,10 +152,16 @@ text_unfrozen m t out s r (inr h) none is f u k = does_unbegun_exit (looked (λ 
 -- ---- stops that are handed on
 
 -- an answer is missing among others
-pub stores_missing : {A B X : Type 0} (f : X → Option A) (xs : List X) (i : ℕ) (x : X) (line : ℕ) (s : Stop) (r : Result B Stop) → i < length xs → x ≡ get_or xs i x → Stores (f x) line (Err s) → IsErrAnd r (λ e. e ≡ s) → Stores {A = List A} (each_of (map f xs)) line (Err s)
-stores_missing f xs i x line s r h is (inl e) err = inl (e.0, each_missing f xs i x h is e.1)
-stores_missing f xs i x line s r h is (inr e) err = inr e
+pub stores_missing : {A X : Type 0} (f : X → Option A) (xs : List X) (i : ℕ) (x : X) (line : ℕ) (s : Stop) → i < length xs → x ≡ get_or xs i x → Stores (f x) line (Err s) → Stores {A = List A} (each_of (map f xs)) line (Err s)
+stores_missing f xs i x line s h is (inl e) = inl (e.0, each_missing f xs i x h is e.1)
+stores_missing f xs i x line s h is (inr e) = inr e
 
 -- an answer that is seen otherwise stops as it did
 pub stores_as : {A B : Type 0} (g : B → A) (out : Option A) (line : ℕ) (s : Stop) (r : Result B Stop) → IsErrAnd r (λ e. e ≡ s) → Stores out line (Err s) → Stores out line (on_ok g r)
 stores_as g out line s r is h = let e = err_from_is_err_and r is in rw (e.1, e.2) h
+
+pub stores_handed : {A : Type 0} (out : Option A) (line : ℕ) (s : Stop) (r : Result A Stop) → IsErrAnd r (λ e. e ≡ s) → Stores out line (Err s) → Stores out line r
+stores_handed out line s r is h = let e = err_from_is_err_and r is in rw (e.1, e.2) h
+
+pub stores_lost : {A : Type 0} (out : Option A) (line : ℕ) (r : Result A Stop) → IsErrAnd r (λ e. e ≡ Memory) → Stores out line r
+stores_lost out line r is = stores_handed out line Memory r is (inr refl)

@@ -191,3 +191,11 @@ short_lost (Bad bytes shadow) m r is f u k = does_lost_act (faults BadShadow) r 
 
 pub entry_lost : (e : Entry) (m : State) (r : Result LabelledText Stop) → length e.bytes ≤ LONGEST → IsErrAnd r (λ x. x ≡ Memory) → Runs (thaw_entry (lift e)) m r m
 entry_lost e m r h is = by_short e m r m h (short_lost (lift e) m r is)
+
+-- want of memory before a policy text is read
+pub policy_unread : (text : List ℕ) (m : State) (r : Result ℕ Stop) → IsErrAnd r (λ x. x ≡ Memory) → Runs (thaw_policy text) m r m
+policy_unread text m r is = by (said text)
+  where
+    by : (o : Option Said) → Runs (thaw_said o) m r m
+    by None f u k = does_lost_act (faults BadShadow) r is
+    by (Some p) f u k = does_unbegun_exit (looked (policy_class p.0)) (remade p) r is
