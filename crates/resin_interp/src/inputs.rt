@@ -7,7 +7,7 @@ ghost use Rattle.resin_eval_calls.specs.Under.meaning_forms.Inputs as inputs;
 ghost use Rattle.resin_eval_calls.specs.Under.meaning_forms.Programs.{evals, most_open};
 ghost use Rattle.resin_eval_calls.specs.Under.meaning_forms.Runs.{on_ok};
 ghost use Rattle.resin_eval_calls.specs.Under.meaning_forms.Writes.{plain as plain_text};
-ghost use Rattle.resin_eval_calls.specs.Under.array_fn.Filled.{added_at};
+ghost use Rattle.resin_eval_calls.specs.Under.builtin.Under.array_fn.Filled.{added_at};
 ghost use Rattle.resin_eval_calls.specs.Under.value.Keys.{is_lawful};
 ghost use Rattle.resin_eval_calls.specs.Under.value.Seen.{tree_of};
 
