@@ -15,13 +15,13 @@ use Rattle.resin_step_parts.specs.Under.ops.Conversions.{key_of}
 use Rattle.resin_step_parts.specs.Under.ops.Places.{seen_answer}
 use Rattle.resin_step_parts.specs.Under.array_fn.Filled.{and_then, added_at, Addition}
 use Rattle.resin_step_parts.specs.Under.builtin.Rows.{mapped, tree_of_array}
-use Rattle.resin_step_parts.specs.Under.tree.declared.declaration.Constant.{Constant, Constant-F, fold-Constant, fold-roll-Constant}
-use Rattle.resin_step_parts.specs.Under.tree.declared.declaration.Constant.TheVariants as constant
-use Rattle.resin_step_parts.specs.Under.tree.declared.declaration.ConstantItem.{ConstantItem, out-ConstantItem, fold-ConstantItem, fold_out-ConstantItem, map-ConstantItem}
-use Rattle.resin_step_parts.specs.Under.tree.declared.expression.Literal.{Literal}
-use Rattle.resin_step_parts.specs.Under.tree.declared.expression.Literal.TheVariants as literal
-use Rattle.resin_step_parts.specs.Under.tree.declared.expression.ConstantName.{ConstantName}
-use Rattle.resin_step_parts.specs.Under.tree.declared.expression.ConstantName.TheVariants as name
+use Rattle.resin_tree.specs.declared.declaration.Constant.{Constant, Constant-F, fold-Constant, fold-roll-Constant}
+use Rattle.resin_tree.specs.declared.declaration.Constant.TheVariants as constant
+use Rattle.resin_tree.specs.declared.declaration.ConstantItem.{ConstantItem, out-ConstantItem, fold-ConstantItem, fold_out-ConstantItem, map-ConstantItem}
+use Rattle.resin_tree.specs.declared.expression.Literal.{Literal}
+use Rattle.resin_tree.specs.declared.expression.Literal.TheVariants as literal
+use Rattle.resin_tree.specs.declared.expression.ConstantName.{ConstantName}
+use Rattle.resin_tree.specs.declared.expression.ConstantName.TheVariants as name
 use Rattle.resin_step_parts.specs.Under.target.Reads.{GivesOrNoMemory}
 use Rattle.resin_step_parts.proofs.meaning_lemmas.Composition.{front}
 use Rattle.resin_step_parts.specs.Under.scalar.Stops.{Gives}

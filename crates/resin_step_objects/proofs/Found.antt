@@ -14,9 +14,9 @@ use Rattle.resin_step_parts.specs.Under.value.declared.value.Value.TheVariants.{
 use Rattle.resin_step_parts.specs.Under.value.Trees.{Tree}
 use Rattle.resin_step_parts.specs.Under.value.Seen.{tree_of}
 use Rattle.resin_step_parts.specs.Under.value.Values.{value_of, value_of-tree_of}
-use Rattle.resin_step_parts.specs.Under.tree.declared.declaration.ClassDecl.{ClassDecl}
-use Rattle.resin_step_parts.specs.Under.tree.declared.declaration.Parameter.{Parameter}
-use Rattle.resin_step_parts.specs.Under.tree.declared.declaration.Property.{Property}
+use Rattle.resin_tree.specs.declared.declaration.ClassDecl.{ClassDecl}
+use Rattle.resin_tree.specs.declared.declaration.Parameter.{Parameter}
+use Rattle.resin_tree.specs.declared.declaration.Property.{Property}
 use Rattle.resin_step_parts.specs.Under.heap.Classes.{Table, line, line_within, parent_in, parent_of, find_method as find_in, first_method, method_of, own_properties, properties_of}
 use Rattle.resin_step_parts.specs.Under.heap.declared.classes.MethodAt.{MethodAt}
 use Rattle.resin_step_parts.specs.Under.machine.declared.stop.Stop.{Stop}

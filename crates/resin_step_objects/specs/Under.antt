@@ -16,5 +16,5 @@ pub use Rattle.resin_step_parts.specs.Under.stage
 pub use Rattle.resin_step_parts.specs as step_parts
 pub use Rattle.resin_step_parts.specs.Under.store
 pub use Rattle.resin_step_parts.specs.Under.target
-pub use Rattle.resin_step_parts.specs.Under.tree
+pub use Rattle.resin_tree.specs as tree
 pub use Rattle.resin_step_parts.specs.Under.value

@@ -13,8 +13,8 @@ use resin_step_parts::reads::{literal_value, with_entry};
 use resin_step_parts::under::machine::{Machine, Stop};
 use resin_step_parts::under::ops::to_key;
 use resin_step_parts::under::scalar::CallStop;
-use resin_step_parts::under::tree::{Constant, ConstantItem};
 use resin_step_parts::under::value::{Arr, Key, Value};
+use resin_tree::{Constant, ConstantItem};
 use std::alloc::Global;
 
 /// The value of a constant expression, as a step.

@@ -11,8 +11,8 @@ use resin_step_parts::under::heap::{MethodAt, PreludeClass, PreludeMethod};
 use resin_step_parts::under::machine::{Machine, Stop};
 use resin_step_parts::under::meaning_forms::Course;
 use resin_step_parts::under::scalar::ScriptFault;
-use resin_step_parts::under::tree::{Function, Parameter};
 use resin_step_parts::under::value::{Value, Values};
+use resin_tree::{Function, Parameter};
 use std::alloc::{AllocError, Global};
 
 // The value of a parameter that gets no argument.

@@ -3,15 +3,15 @@ ghost use Rattle.resin_step_parts.specs.Under.meaning_forms.Calls.{class_to_make
 ghost use Rattle.resin_step_parts.specs.Under.meaning_forms.Runs.{Runs};
 ghost use Rattle.resin_step_parts.specs.Under.heap.Classes.{own_properties};
 ghost use Rattle.resin_step_objects.specs.Beginnings.{Begins};
-ghost use Rattle.resin_step_parts.specs.Under.tree.declared.declaration.Property.{Property as AnyProperty};
+ghost use Rattle.resin_tree.specs.declared.declaration.Property.{Property as AnyProperty};
 ghost use Rattle.std.specs.Prelude.{List, OnOk, ◌++◌, ◌≡◌};
 
 use crate::constants::constant_value;
 use resin_step_parts::under::heap::PreludeClass;
 use resin_step_parts::under::machine::{Machine, Stop};
 use resin_step_parts::under::scalar::ScriptFault;
-use resin_step_parts::under::tree::Property;
 use resin_step_parts::under::value::Value;
+use resin_tree::Property;
 use std::alloc::Global;
 
 // The value that a property is given.

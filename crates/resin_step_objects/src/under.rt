@@ -3,5 +3,6 @@
 pub use resin_step_parts as step_parts;
 pub use resin_step_parts::under::{
     base, bytes, heap, items, journal, label, lstr, machine, meaning, meaning_forms, ops, scalar,
-    store, target, tree, value,
+    store, target, value,
 };
+pub use resin_tree as tree;

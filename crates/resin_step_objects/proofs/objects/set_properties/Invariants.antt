@@ -1,6 +1,6 @@
 use Rattle.resin_step_parts.specs.Under.meaning_forms.Calls.{set_properties}
 use Rattle.resin_step_parts.proofs.Steps.{Leaves}
-use Rattle.resin_step_parts.specs.Under.tree.declared.declaration.Property.{Property}
+use Rattle.resin_tree.specs.declared.declaration.Property.{Property}
 use Rattle.std.proofs.Common.{List, drop, ◌++◌, ◌≡◌}
 use Rattle.resin_step_objects.proofs.objects.set_properties.Given as goal
 
