@@ -1,6 +1,10 @@
 //! What this crate stands on, passed on to the crates above, which list this one alone.
 
-pub use resin_step_objects as step_objects;
+/// `resin_step_objects`
+pub mod step_objects {
+    pub use resin_step_objects::{calls, constants, invoke, objects};
+}
+
 pub use resin_step_objects::under::{
     base, bytes, heap, items, journal, label, lstr, machine, meaning_forms, ops, scalar,
     step_parts, store, target, tree, value,

@@ -1,4 +1,7 @@
 //! What this crate stands on, passed on to the crates above, which list this one alone.
 
-pub use resin_scope as scope;
+/// `resin_scope`
+pub mod scope {
+    pub use resin_scope::{Chains, NameMap, Page, Scopes};
+}
 pub use resin_scope::under::journal;

@@ -1,6 +1,9 @@
 //! What this crate stands on, passed on to the crates above, which list this one alone.
 
-pub use resin_step_parts as step_parts;
+/// `resin_step_parts`
+pub mod step_parts {
+    pub use resin_step_parts::{channels, declarations, names, operators, reads, statements, values};
+}
 pub use resin_step_parts::under::{
     base, builtin, label, lstr, machine, ops, scalar, target, tree, value,
 };

@@ -1,6 +1,10 @@
 //! What this crate stands on, passed on to the crates above, which list this one alone.
 
-pub use resin_meaning_forms as meaning_forms;
+/// `resin_meaning_forms`
+pub mod meaning_forms {
+    pub use resin_meaning_forms::{Callee, ChannelFunction, Course, Flow, Outgoing, StateFunction};
+}
+
 pub use resin_meaning_forms::under::{
     base, builtin, bytes, heap, items, journal, label, lstr, machine, meaning, ops, scalar, store,
     target, tree, value,

@@ -1,5 +1,11 @@
 //! What this crate stands on, passed on to the crates above, which list this one alone.
 
-pub use resin_machine as machine;
+/// `resin_machine`
+pub mod machine {
+    pub use resin_machine::{Finished, Machine, Stage, Stop};
+}
 pub use resin_machine::under::{heap, items, journal, tree};
-pub use resin_ops as ops;
+/// `resin_ops`
+pub mod ops {
+    pub use resin_ops::{Arith, arith, index_text, to_int, to_key, to_number, to_text};
+}
