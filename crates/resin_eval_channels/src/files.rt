@@ -19,11 +19,12 @@ use resin_eval_writes::under::journal::Channel;
 use resin_eval_writes::under::lstr::LText;
 use resin_eval_writes::under::machine::{Machine, Stop};
 use resin_eval_writes::under::scalar::ScriptFault;
-use resin_eval_writes::under::store::policies_of;
 use resin_eval_writes::under::step_parts::reads::number;
+use resin_eval_writes::under::store::policies_of;
 use resin_eval_writes::under::value::Value;
 use resin_shadow::{FrozenRuns, encode};
-use resin_step_keeping::{freeze_text, thaw_entry};
+use resin_step_keeping::freezing::freeze_text;
+use resin_step_keeping::thawing::thaw_entry;
 use std::alloc::{AllocError, Global};
 
 /// FILE_APPEND

@@ -4,4 +4,8 @@
 pub mod eval_nested {
     pub use resin_eval_nested::{invoke, nested, run};
 }
-pub use resin_eval_nested::under::{base, bytes, heap, items, journal, label, lstr, machine, meaning_forms, ops, scalar, step_objects, step_parts, store, target, tree, value};
+
+pub use resin_eval_nested::under::{
+    base, bytes, heap, items, journal, label, lstr, machine, meaning_forms, ops, scalar,
+    step_objects, step_parts, store, target, tree, value,
+};

@@ -7,14 +7,14 @@ use Rattle.resin_eval_calls.specs.Under.value.declared.value.Value.TheVariants.{
 use Rattle.resin_eval_calls.specs.Under.value.Seen.{tree_of}
 use Rattle.resin_eval_calls.specs.Under.value.Trees.{Tree, null, boolean, integer, object}
 use Rattle.resin_eval_calls.specs.Under.lstr.Texts.{Text as LabelledText}
-use Rattle.resin_eval_calls.specs.Under.value.Arrays.{Array, EntryList}
+use Rattle.resin_eval_calls.specs.Under.value.Arrays.{Array, EntryList, entries_of-row_of}
 use Rattle.resin_eval_calls.specs.Under.value.Changes.{AreLawful}
 use Rattle.resin_eval_calls.specs.Under.value.Keys.{is_lawful}
 use Rattle.resin_eval_calls.specs.Under.machine.declared.stop.Stop.{Stop}
 use Rattle.resin_eval_calls.specs.Under.machine.declared.stop.Stop.TheVariants.{Memory}
-use Rattle.resin_eval_calls.specs.Under.meaning.Programs.{Prog, give}
+use Rattle.resin_eval_calls.specs.Under.meaning.Programs.{Prog, give, ◌>>=◌}
 use Rattle.resin_eval_calls.specs.Under.meaning.Runs.{World, Does}
-use Rattle.resin_eval_calls.specs.Under.meaning_forms.Inputs.{filtered_entries, filtered_input, filtered_text, input_context, key_text}
+use Rattle.resin_eval_calls.specs.Under.meaning_forms.Inputs.{as_tree, filtered_entries, filtered_input, filtered_text, filtered_texts, input_context, key_text}
 use Rattle.resin_eval_calls.specs.Under.meaning_forms.Parts.{Evals}
 use Rattle.resin_eval_calls.specs.Under.meaning_forms.Runs.{on_ok}
 use Rattle.resin_eval_calls.proofs.eval_nested_lemmas.Arms.{does_none}
@@ -48,6 +48,11 @@ unbegun_input ev name key (Int n s) r h = does_seen_none (integer n s) tree_of r
 unbegun_input ev name key (Text t) r h = does_seen_unbegun _ _ tree_of r h
 unbegun_input ev name key (Arr a) r h = does_seen_unbegun _ _ tree_of r h
 unbegun_input ev name key (Obj o) r h = does_seen_none (object o) tree_of r h
+
+-- the values of an array pass the filters
+pub of_array : (ev : Evals) (name : List ℕ) (key : Key) (a : Array) → filtered_input ev name key (tree_of (Arr a)) ≡ (filtered_texts ev (input_context name (key_text key)) a >>= λ b. give (as_tree b))
+of_array ev name key a =
+    ap (λ es. filtered_texts ev (input_context name (key_text key)) (record { entries = es; largest = a.largest; height = a.height }) >>= λ b. give (as_tree b)) (entries_of-row_of a.entries)
 
 -- a value that is no array passes the filters itself
 pub no_array : (ev : Evals) (name : List ℕ) (key : Key) (v : Value) → ((a : Array) → v ≡ Arr a → ⊥) → filtered_input ev name key (tree_of v) ≡ filtered_text ev (input_context name (key_text key)) (tree_of v)

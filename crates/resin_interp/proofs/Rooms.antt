@@ -74,12 +74,6 @@ rank (Asked e) = 0
 rank (Statement s) = 0
 rank (Source src) = 4
 
-pub rank_low : (n : Nested) → rank n ≤ 4
-rank_low (ForValue e) = omega arith
-rank_low (Asked e) = omega arith
-rank_low (Statement s) = omega arith
-rank_low (Source src) = omega arith
-
 -- one more may be open
 pub open_expr : (room : ℕ) (e : Expr) {u v : World} {r : Result Value Stop} → room ≢ 0 → Does ((evals (suc (room - 1))).expr e) u r v → Does ((evals room).expr e) u r v
 open_expr room e {u = u} {v = v} {r = r} ne d =

@@ -7,7 +7,7 @@ ghost use Rattle.resin_eval_calls.specs.Under.meaning_forms.Inputs as inputs;
 ghost use Rattle.resin_eval_calls.specs.Under.meaning_forms.Programs.{evals, most_open};
 ghost use Rattle.resin_eval_calls.specs.Under.meaning_forms.Runs.{on_ok};
 ghost use Rattle.resin_eval_calls.specs.Under.meaning_forms.Writes.{plain as plain_text};
-ghost use Rattle.resin_eval_calls.specs.Under.array_fn.Filled.{added_at};
+ghost use Rattle.resin_eval_calls.specs.Under.builtin.Under.array_fn.Filled.{added_at};
 ghost use Rattle.resin_eval_calls.specs.Under.value.Keys.{is_lawful};
 ghost use Rattle.resin_eval_calls.specs.Under.value.Seen.{tree_of};
 
@@ -72,12 +72,7 @@ impl<
     N: Fn(Global, u32, Nested<'_>, &mut Run<F, T>) -> Result<Outcome, Stop> + Copy,
 > Inputs<'_, F, T, N> {
     // A text as its filters give it; another value stays.
-    fn filtered_text(
-        &self,
-        run: &mut Run<F, T>,
-        context: &Value,
-        v: &Value,
-    ) -> Result<Value, Stop>
+    fn filtered_text(&self, run: &mut Run<F, T>, context: &Value, v: &Value) -> Result<Value, Stop>
         requires { Nests F.Files T.Tables N.pre N.post self.now.by.now }
         ensures { Performs F.Files T.Tables (inputs.filtered_text (means self.now.by.now) context.now (tree_of v.now)) run.old (on_ok tree_of result) run.new }
     {

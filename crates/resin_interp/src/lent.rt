@@ -9,9 +9,8 @@ ghost use Rattle.resin_eval_calls.specs.Under.meaning.Runs.{Does, files_seen, se
 ghost use Rattle.std.specs.Fn.{FnOnceReturnsAtMut};
 ghost use Rattle.std.specs.Prelude.{false, ◌≡◌};
 
-use crate::inputs;
-use crate::pages;
 use crate::top::{perform, perform_call};
+use crate::{inputs, pages};
 use resin_eval_calls::under::base::{Calls, Files, Tables};
 use resin_eval_calls::under::eval_nested::run::Run;
 use resin_eval_calls::under::journal::Channel;

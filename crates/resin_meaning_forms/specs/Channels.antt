@@ -122,7 +122,7 @@ channel_work ev HeaderFunction (text line ∷ ts) = leave ev (HeaderLine (flag_i
 channel_work ev ResponseCode (n ∷ ts) = set_status ev (status_of n) n
 channel_work ev MailFunction (text to ∷ text subject ∷ text message ∷ ts) =
     if is_one_line to && is_one_line subject then (leave ev (Mail to subject) (mail_context to) message >> give (boolean true)) else thrown_new ValueError
-channel_work ev FilePutContents (text path ∷ text data ∷ ts) = put_contents ev (bytes_of path) data (flags_in ts)
+channel_work ev FilePutContents (text path ∷ text t ∷ ts) = put_contents ev (bytes_of path) t (flags_in ts)
 channel_work ev FileGetContents (text path ∷ ts) = get_contents ev (bytes_of path)
 channel_work ev Unlink (text path ∷ ts) = unlink (bytes_of path)
 channel_work ev FileExists (text path ∷ ts) = exists (bytes_of path)

@@ -64,15 +64,15 @@ to_hold path flags new = if int_eq flags append_flag then (read_file path >>= be
 
 -- the data passes the filters, and its policies are frozen, before the first keeper call; the answer is how many bytes the filters gave
 abbrev pub put_data : Evals → List ℕ → LabelledText → ℤ → Prog Tree
-put_data ev path data flags = do
-  kept ← keep_through ev File (path_context File path) data
+put_data ev path t flags = do
+  kept ← keep_through ev File (path_context File path) t
   marks ← freeze_text kept
   held ← to_hold path flags (zip (bytes_of kept) marks)
   write_file path held
   give (integer (pos (length kept)) no_labels)
 
 abbrev pub put_contents : Evals → List ℕ → LabelledText → ℤ → Prog Tree
-put_contents ev path data flags = at_lawful path (if is_flag flags then put_data ev path data flags else thrown_new ValueError)
+put_contents ev path t flags = at_lawful path (if is_flag flags then put_data ev path t flags else thrown_new ValueError)
 
 -- ---- unlink, file_exists
 

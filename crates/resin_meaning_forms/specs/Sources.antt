@@ -59,5 +59,5 @@ abbrev pub program_of : List ℕ → Prog Program
 program_of src = read_as src (parsed src)
 
 -- a source text runs in the variables of the running call
-abbrev pub source : Evals → List ℕ → Prog Course
+unfoldable pub source : Evals → List ℕ → Prog Course
 source ev src = program_of src >>= file ev

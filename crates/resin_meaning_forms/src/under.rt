@@ -2,16 +2,25 @@
 
 /// `resin_builtin`
 pub mod builtin {
-    pub use resin_builtin::{ArgKind, Builtin, Digest, OneArray, OneInteger, OneText, Sig, Test, TrimSide, TwoTexts, builtin_named, call, int_places, signature};
+    pub use resin_builtin::{
+        ArgKind, Builtin, Digest, OneArray, OneInteger, OneText, Sig, Test, TrimSide, TwoTexts,
+        builtin_named, call, int_places, signature,
+    };
 }
+
 pub use resin_builtin::under::{bytes, label, lstr, scalar, scan, value};
 /// `resin_meaning`
 pub mod meaning {
-    pub use resin_meaning::{create_table, delete_row, file_exists, insert_row, read_file, remove_file, table_columns, table_rows, update_row, write_file};
+    pub use resin_meaning::{
+        create_table, delete_row, file_exists, insert_row, read_file, remove_file, table_columns,
+        table_rows, update_row, write_file,
+    };
 }
+
 pub use resin_meaning::under::{base, store};
 /// `resin_target`
 pub mod target {
     pub use resin_target::{Hop, Index, Path, Place, at_index, at_property, erase, fetch, store};
 }
+
 pub use resin_target::under::{heap, items, journal, machine, ops, tree};

@@ -54,11 +54,7 @@ fn run_boot<F: Files, T: Tables>(alloc: Global, run: &mut Run<F, T>) -> Result<(
 }
 
 // Runs the text of an entry.
-fn run_entry<F: Files, T: Tables>(
-    alloc: Global,
-    run: &mut Run<F, T>,
-    e: &Entry,
-) -> Result<(), Stop>
+fn run_entry<F: Files, T: Tables>(alloc: Global, run: &mut Run<F, T>, e: &Entry) -> Result<(), Stop>
     ensures { Performs F.Files T.Tables (run_found (Some (lift e.now))) run.old result run.new }
 {
     let text = thaw_entry(alloc, &mut run.machine, e)?;

@@ -7,6 +7,7 @@ ghost use Rattle.std.specs.Prelude.{◌≡◌, map, OnErr, OnOk, Some};
 ghost use Rattle.indexmap.specs.IndexMap.{insert_entry};
 ghost use Rattle.std.specs.Prelude.{nat_eq};
 
+use crate::lists::put;
 use crate::runs::set_runs;
 use indexmap::IndexMap;
 use resin_frozen::{FreezeFault, Frozen, are_fields, freeze, is_class};
@@ -36,7 +37,7 @@ fn freeze_sets(alloc: Global, m: &Machine, sets: &[PSet]) -> Result<Vec<FrozenLi
     let mut lists = Vec::new(alloc);
     for set in sets {
         let list = freeze_set(alloc, m, &mut kept, set.as_slice())?;
-        lists.push(list)?;
+        put(&mut lists, list)?;
     }
     Ok(lists)
 }

@@ -2,6 +2,7 @@
 #![tactic(auto)]
 
 pub mod freezing;
-pub mod labels;
-pub mod runs;
+mod labels;
+mod lists;
+mod runs;
 pub mod thawing;

@@ -7,6 +7,7 @@ ghost use Rattle.resin_step_parts.specs.Under.value.declared.key.Key.{Key as Any
 ghost use Rattle.std.specs.Prelude.{◌≡◌, [], Some, None};
 
 use crate::labels::labelled;
+use crate::lists::put;
 use resin_frozen::{Frozen, said};
 use resin_shadow::FrozenRuns;
 use resin_step_parts::reads::plain;
@@ -62,7 +63,7 @@ fn thaw_policies(alloc: Global, m: &mut Machine, texts: &[Frozen]) -> Result<Vec
     let mut objects = Vec::new(alloc);
     for text in texts {
         let object = thaw_policy(alloc, m, text)?;
-        objects.push(object)?;
+        put(&mut objects, object)?;
     }
     Ok(objects)
 }

@@ -4,4 +4,8 @@
 pub mod meaning_forms {
     pub use resin_meaning_forms::{Callee, ChannelFunction, Course, Flow, Outgoing, StateFunction};
 }
-pub use resin_meaning_forms::under::{base, builtin, bytes, heap, items, journal, label, lstr, machine, meaning, ops, scalar, store, target, tree, value};
+
+pub use resin_meaning_forms::under::{
+    base, builtin, bytes, heap, items, journal, label, lstr, machine, meaning, ops, scalar, store,
+    target, tree, value,
+};

@@ -3,6 +3,7 @@ use Rattle.resin_eval_calls.proofs.meaning_lemmas.Composition.{does_exit, does_g
 use Rattle.resin_eval_calls.proofs.eval_nested_lemmas.Exits.{does_is}
 use Rattle.resin_eval_calls.specs.Under.meaning_forms.Invoke.{block}
 use Rattle.resin_eval_calls.specs.Under.meaning_forms.Programs.{evals}
+use Rattle.resin_eval_calls.specs.Under.meaning_forms.Sources.{source}
 use Rattle.resin_interp.proofs.Counts.{no_statement}
 use Rattle.resin_interp.proofs.Rooms.{shut, source_stopped, open_expr, open_soft, open_stmt, value_stopped, asked_stopped, statement_stopped}
 use Rattle.resin_interp.proofs.run.+walk.Goals as goal
@@ -38,15 +39,15 @@ evaluation-returns-in_ok-course-in-Statement g t c =
 
 pub evaluation-returns-in_err-p : goal.evaluation-returns-in_err-p
 evaluation-returns-in_err-p g t c =
-    rw c.in-Source.is (source_stopped c.args.room c.in-Source.src _ c.from_residual.ensures.1 (λ le. does_stop _ _ (c.in_err-p.ensures le _)))
+    rw c.in-Source.is (source_stopped c.args.room c.in-Source.src _ c.from_residual.ensures.1 (λ le. unfold source in does_stop _ _ (c.in_err-p.ensures le _)))
 
 pub evaluation-returns-in_err-course : goal.evaluation-returns-in_err-course
 evaluation-returns-in_err-course g t c =
-    rw c.in-Source.is (source_stopped c.args.room c.in-Source.src _ c.from_residual-in_err-course.ensures.1 (λ le. does_next _ _ (c.in_ok-p.ensures le _) c.in_err-course.ensures))
+    rw c.in-Source.is (source_stopped c.args.room c.in-Source.src _ c.from_residual-in_err-course.ensures.1 (λ le. unfold source in does_next _ _ (c.in_ok-p.ensures le _) c.in_err-course.ensures))
 
 pub evaluation-returns-in_ok-course : goal.evaluation-returns-in_ok-course
 evaluation-returns-in_ok-course g t c =
-    rw c.in-Source.is (λ le. does_next _ _ (c.in_ok-p.ensures le _) c.in_ok-course.ensures)
+    rw c.in-Source.is (λ le. unfold source in does_next _ _ (c.in_ok-p.ensures le _) c.in_ok-course.ensures)
 
 pub run_file-returns-in_err-declare_all : goal.run_file-returns-in_err-declare_all
 run_file-returns-in_err-declare_all g t c =

@@ -4,12 +4,12 @@ use Rattle.resin_eval_calls.specs.Under.meaning_forms.Sources.{statement_in}
 use Rattle.resin_eval_calls.specs.Under.meaning.Runs.{Leads}
 use Rattle.resin_eval_calls.specs.Under.eval_nested.Running.{at}
 use Rattle.resin_interp.proofs.Rooms.{rank}
-use Rattle.std.proofs.Common.{◌+◌, ◌*◌, drop}
+use Rattle.std.proofs.Common.{◌+◌, ◌*◌, min, drop}
 use Rattle.std.specs.List.{filter_map}
 use Rattle.resin_interp.proofs.run.+walk.Given as goal
 
 abbrev pub decreases-evaluation : goal.decreases-evaluation
-decreases-evaluation g a = 5 * a.room + rank a.what
+decreases-evaluation g a = 5 * a.room + min 4 (rank a.what)
 
 abbrev pub decreases-run_file : goal.decreases-run_file
 decreases-run_file g a = 5 * a.room + 3

@@ -1,0 +1,101 @@
+-- Bytes with the objects of their policies.
+use Rattle.std.proofs.Common.{◌≡◌, ℕ, zero, suc, ◌+◌, ◌-◌, ◌<◌, ◌≤◌, Bool, true, false, List, [], ◌∷◌, ◌++◌, length, map, take, drop, get_or, slice_get, None, Some, refl, sym, ap, ◌∙◌, arith, append_assoc, append-nil}
+use Rattle.std.specs.Prelude.{Option, replicate, min, nat_eq, ◌||◌}
+use Rattle.std.specs.List.{list_any, zip}
+use Rattle.std.specs.Option.{option_map_or}
+use Rattle.resin_shadow.specs.Marks.{Marks}
+use Rattle.resin_shadow.specs.Shadows.{places}
+use Rattle.resin_shadow.specs.Parts.{PlacedRun, run_spelled, spelled_by}
+use Rattle.resin_store.specs.Entries.{Marked, plain_bytes, marks}
+use Rattle.resin_step_parts.specs.Under.label.Sets.{NumberSet, empty, contains, union, set_of as labels_of}
+use Rattle.resin_step_parts.proofs.label_lemmas.Members.{same_by, contains-union, contains-set_of}
+use Rattle.resin_step_parts.specs.Under.lstr.Texts.{Text as LabelledText, carrying}
+use Rattle.resin_step_parts.specs.Under.meaning_forms.Keeping.{labels_for, labelled}
+use Rattle.resin_step_parts.proofs.meaning_lemmas.Composition.{front}
+use Rattle.resin_step_keeping.specs.Sets.{objects_at, labels_at}
+use Rattle.resin_step_keeping.proofs.Spelled.{spelled-map}
+
+-- ---- sets of halves
+any-append : {X : Type 0} (p : X → Bool) (xs ys : List X) → list_any p (xs ++ ys) ≡ (list_any p xs || list_any p ys)
+any-append p [] ys = refl
+any-append p (x ∷ xs) ys = by (p x) (any-append p xs ys)
+  where
+    by : (b : Bool) → list_any p (xs ++ ys) ≡ (list_any p xs || list_any p ys) → (b || list_any p (xs ++ ys)) ≡ ((b || list_any p xs) || list_any p ys)
+    by true e = refl
+    by false e = e
+
+union_of : (xs ys : List ℕ) → union (labels_of xs) (labels_of ys) ≡ labels_of (xs ++ ys)
+union_of xs ys =
+    same_by (union (labels_of xs) (labels_of ys)) (labels_of (xs ++ ys))
+    (λ q. contains-union (labels_of xs) (labels_of ys) q ∙ ap (λ b. b || contains (labels_of ys) q) (contains-set_of xs q) ∙ ap (λ b. list_any (λ x. nat_eq x q) xs || b) (contains-set_of ys q)
+    ∙ sym (any-append (λ x. nat_eq x q) xs ys) ∙ sym (contains-set_of (xs ++ ys) q))
+
+take-drop : {X : Type 0} (n : ℕ) (xs : List X) → take n xs ++ drop n xs ≡ xs
+take-drop zero xs = refl
+take-drop (suc n) [] = refl
+take-drop (suc n) (x ∷ xs) = ap (λ ys. x ∷ ys) (take-drop n xs)
+
+pub halves : (half : ℕ) (ns front behind : List ℕ) (a b s : NumberSet) → front ≡ take half ns → behind ≡ drop half ns → a ≡ labels_of front → b ≡ labels_of behind → s ≡ union a b → s ≡ labels_of ns
+halves half ns front behind a b s f g e h u =
+    u ∙ ap (λ x. union x b) e ∙ ap (union (labels_of front)) h ∙ union_of front behind ∙ ap (λ xs. labels_of (xs ++ behind)) f ∙ ap (λ ys. labels_of (take half ns ++ ys)) g ∙ ap labels_of (take-drop half ns)
+
+-- ---- bytes with the sets of runs
+run_front : (n k : ℕ) (s : NumberSet) (bytes : List ℕ) (more : List NumberSet) → k ≤ n → k ≤ length bytes → (k < n → k ≡ length bytes) → zip bytes (replicate n s ++ more) ≡ carrying s (take k bytes) ++ zip (drop k bytes) more
+run_front zero zero s bytes more a b c = refl
+run_front zero (suc k) s bytes more a b c = absurd (omega (arith, a))
+run_front (suc n) zero s [] more a b c = refl
+run_front (suc n) zero s (x ∷ bytes) more a b c = absurd (let e = c (omega arith) in omega (arith, e))
+run_front (suc n) (suc k) s [] more a b c = absurd (omega (arith, b))
+run_front (suc n) (suc k) s (x ∷ bytes) more a b c = ap (λ v. (x, s) ∷ v) (run_front n k s bytes more (omega (arith, a)) (omega (arith, b)) (λ h. let e = c (omega (arith, h)) in omega (arith, e)))
+
+-- what is left of the bytes, with what is left of the runs
+pub run_read : (sets : List NumberSet) (runs : List PlacedRun) (i : ℕ) (r : PlacedRun) (s : NumberSet) (k : ℕ) (text new : LabelledText) (bytes front_bytes behind : List ℕ) (whole : LabelledText) → i < length runs → r ≡ get_or runs i r → slice_get sets r.1 ≡ Some s
+    → k ≡ min r.0 (length bytes) → front_bytes ≡ take k bytes → behind ≡ drop k bytes → new ≡ text ++ carrying s front_bytes → text ++ zip bytes (spelled_by sets (drop i runs)) ≡ whole
+    → new ++ zip behind (spelled_by sets (drop (i + 1) runs)) ≡ whole
+run_read sets runs i r s k text new bytes front_bytes behind whole h is at count f b n so_far =
+    let more = spelled_by sets (drop (i + 1) runs) in
+    let left : spelled_by sets (drop i runs) ≡ replicate r.0 s ++ more = ap (spelled_by sets) (front runs i r h is) ∙ ap (λ o. option_map_or (replicate r.0) o [] ++ more) at in
+    ap (λ t. t ++ zip behind more) n
+    ∙ append_assoc text (carrying s front_bytes) (zip behind more)
+    ∙ ap (λ v. text ++ (carrying s v ++ zip behind more)) f
+    ∙ ap (λ v. text ++ (carrying s (take k bytes) ++ zip v more)) b
+    ∙ ap (λ v. text ++ v) (sym (run_front r.0 k s bytes more (omega (arith, count)) (omega (arith, count)) (λ l. omega (arith, count, l))))
+    ∙ ap (λ v. text ++ zip bytes v) (sym left)
+    ∙ so_far
+
+pub no_run : (sets : List NumberSet) (runs : List PlacedRun) (i : ℕ) (r : PlacedRun) (text : LabelledText) (bytes : List ℕ) (whole : LabelledText) → i < length runs → r ≡ get_or runs i r → slice_get sets r.1 ≡ None
+    → text ++ zip bytes (spelled_by sets (drop i runs)) ≡ whole → text ++ zip bytes (spelled_by sets (drop (i + 1) runs)) ≡ whole
+no_run sets runs i r text bytes whole h is at so_far =
+    ap (λ v. text ++ zip bytes v) (sym (ap (spelled_by sets) (front runs i r h is) ∙ ap (λ o. option_map_or (replicate r.0) o [] ++ spelled_by sets (drop (i + 1) runs)) at)) ∙ so_far
+
+zip-nil : {A B : Type 0} (xs : List A) → zip {X = B} xs [] ≡ []
+zip-nil [] = refl
+zip-nil (x ∷ xs) = refl
+
+dropped : {X : Type 0} (xs : List X) (i : ℕ) → length xs ≤ i → drop i xs ≡ []
+dropped [] zero h = refl
+dropped [] (suc i) h = refl
+dropped (x ∷ xs) zero h = absurd (omega arith)
+dropped (x ∷ xs) (suc i) h = dropped xs i (omega arith)
+
+pub all_read : (sets : List NumberSet) (runs : List PlacedRun) (i : ℕ) (text : LabelledText) (bytes : List ℕ) (whole : LabelledText) → length runs ≤ i → text ++ zip bytes (spelled_by sets (drop i runs)) ≡ whole → text ≡ whole
+all_read sets runs i text bytes whole h so_far =
+    sym (append-nil text) ∙ ap (λ v. text ++ v) (sym (zip-nil bytes)) ∙ ap (λ rs. text ++ zip bytes (spelled_by sets rs)) (sym (dropped runs i h)) ∙ so_far
+
+-- ---- the whole
+map-map : {X Y Z : Type 0} (f : Y → Z) (g : X → Y) (xs : List X) → map f (map g xs) ≡ map (λ x. f (g x)) xs
+map-map f g [] = refl
+map-map f g (x ∷ xs) = ap (λ v. f (g x) ∷ v) (map-map f g xs)
+
+marked_pairs : (table : List (List ℕ)) (objects : List ℕ) (d : Marked) → zip (plain_bytes d) (map (labels_at objects) (map (places table) (marks d))) ≡ labelled table objects d
+marked_pairs table objects [] = refl
+marked_pairs table objects (b ∷ d) = ap (λ v. (b.0, labels_for table objects b.1) ∷ v) (marked_pairs table objects d)
+
+pub labelled_is : {L : Type 0} (items_of : L → List ℕ) (sets : List L) (runs : List PlacedRun) (table : List (List ℕ)) (objects bytes : List ℕ) (v : Marks) (d : Marked) (text : LabelledText)
+    → spelled_by (map items_of sets) runs ≡ map (places table) v → plain_bytes d ≡ bytes → marks d ≡ v → text ≡ zip bytes (spelled_by (map (λ s. labels_at objects (items_of s)) sets) runs) → text ≡ labelled table objects d
+labelled_is items_of sets runs table objects bytes v d text e b m t =
+    t
+    ∙ ap (λ s. zip bytes (spelled_by s runs)) (sym (map-map (labels_at objects) items_of sets))
+    ∙ ap (zip bytes) (spelled-map (labels_at objects) (map items_of sets) runs ∙ ap (map (labels_at objects)) (e ∙ ap (map (places table)) (sym m)))
+    ∙ ap (λ xs. zip xs (map (labels_at objects) (map (places table) (marks d)))) (sym b)
+    ∙ marked_pairs table objects d
