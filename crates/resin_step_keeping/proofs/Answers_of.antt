@@ -21,7 +21,7 @@ pub each-append : {A : Type 0} (os ps : List (Option A)) (ys zs : List A) → ea
 each-append [] ps ys zs e f = f ∙ ap (λ v. Some (v ++ zs)) (some_is [] ys e)
 each-append (o ∷ os) ps ys zs e f =
     let p = first_some o (each_of os) ys e in
-    ap (λ q. with_first q (each_of (os ++ ps))) p.2.0 ∙ ap (with_first (Some p.0)) (each-append os ps p.1 zs p.2.1 f) ∙ ap (λ v. Some (v ++ zs)) (sym p.2.2)
+    ap (λ q. with_first q (each_of (os ++ ps))) p.2 ∙ ap (with_first (Some p.0)) (each-append os ps p.1 zs p.3 f) ∙ ap (λ v. Some (v ++ zs)) (sym p.4)
 
 pub each-same : {A : Type 0} (n : ℕ) (o : Option A) (y : A) → o ≡ Some y → each_of (replicate n o) ≡ Some (replicate n y)
 each-same zero o y e = refl
@@ -32,7 +32,7 @@ pub each-map : {A B X : Type 0} (f : X → Option A) (h : A → B) (xs : List X)
 each-map f h [] ys e = ap (λ v. Some (map h v)) (some_is [] ys e)
 each-map f h (x ∷ xs) ys e =
     let p = first_some (f x) (each_of (map f xs)) ys e in
-    ap (λ q. with_first (option_map h q) (each_of (map (λ x. option_map h (f x)) xs))) p.2.0 ∙ ap (with_first (Some (h p.0))) (each-map f h xs p.1 p.2.1) ∙ ap (λ v. Some (map h v)) (sym p.2.2)
+    ap (λ q. with_first (option_map h q) (each_of (map (λ x. option_map h (f x)) xs))) p.2 ∙ ap (with_first (Some (h p.0))) (each-map f h xs p.1 p.3) ∙ ap (λ v. Some (map h v)) (sym p.4)
 
 -- the answer at a place
 abbrev AnswersAt : {A X : Type 0} → (X → Option A) → Option X → Option A → Type 0
@@ -43,10 +43,10 @@ answers_at : {A X : Type 0} (f : X → Option A) (xs : List X) (ys : List A) (n 
 answers_at f [] ys n e = ap (λ v. slice_get v n) (sym (some_is [] ys e))
 answers_at f (x ∷ xs) ys zero e =
     let p = first_some (f x) (each_of (map f xs)) ys e in
-    (p.0, ap (λ v. slice_get v 0) p.2.2, p.2.0)
+    (p.0, ap (λ v. slice_get v 0) p.4, p.2)
 answers_at f (x ∷ xs) ys (suc n) e =
     let p = first_some (f x) (each_of (map f xs)) ys e in
-    subst (λ v. AnswersAt f (slice_get xs n) (slice_get v (suc n))) (sym p.2.2) (answers_at f xs p.1 n p.2.1)
+    subst (λ v. AnswersAt f (slice_get xs n) (slice_get v (suc n))) (sym p.4) (answers_at f xs p.1 n p.3)
 
 run_answers : {A X : Type 0} (f : X → Option A) (n : ℕ) (o : Option X) (p : Option A) → AnswersAt f o p → each_of (map f (option_map_or (replicate n) o [])) ≡ Some (option_map_or (replicate n) p [])
 run_answers f n None p h = ap (λ q. Some (option_map_or (replicate n) q [])) (sym h)
@@ -65,7 +65,7 @@ pub all_there : {A X : Type 0} (f : X → Option A) (xs : List X) (ys : List A) 
 all_there f [] ys e = refl
 all_there f (x ∷ xs) ys e =
     let p = first_some (f x) (each_of (map f xs)) ys e in
-    ap (λ o. is_some o && list_all (λ x. is_some (f x)) xs) p.2.0 ∙ all_there f xs p.1 p.2.1
+    ap (λ o. is_some o && list_all (λ x. is_some (f x)) xs) p.2 ∙ all_there f xs p.1 p.3
 
 there_all : {A : Type 0} (o : Option A) (os : Option (List A)) → with_first o os ≡ None → is_some o ≡ true → os ≡ None
 there_all None os e h = absurd (true≢false (sym h))
