@@ -109,3 +109,15 @@ pub each_missing : {A X : Type 0} (f : X → Option A) (xs : List X) (i : ℕ) (
 each_missing f [] i x h at none = absurd (omega arith)
 each_missing f (y ∷ xs) zero x h at none = ap (λ o. with_first o (each_of (map f xs))) (ap f (sym at) ∙ none)
 each_missing f (y ∷ xs) (suc i) x h at none = ap (with_first (f y)) (each_missing f xs i x (omega arith) at none) ∙ first_none (f y)
+
+-- the same where the items are numbers
+get_there : (xs : List ℕ) (i d : ℕ) → i < length xs → get_or xs i 0 ≡ get_or xs i d
+get_there [] i d h = absurd (omega arith)
+get_there (x ∷ xs) zero d h = refl
+get_there (x ∷ xs) (suc i) d h = get_there xs i d (omega arith)
+
+pub number_more : {A : Type 0} (f : ℕ → Option A) (xs : List ℕ) (i : ℕ) (y : A) (now new : List A) → i < length xs → each_of (map f (take i xs)) ≡ Some now → f (get_or xs i 0) ≡ Some y → new ≡ now ++ y ∷ [] → each_of (map f (take (i + 1) xs)) ≡ Some new
+number_more f xs i y now new h e is n = each_more f xs i (get_or xs i 0) y now new h (get_there xs i (get_or xs i 0) h) e is n
+
+pub number_missing : {A : Type 0} (f : ℕ → Option A) (xs : List ℕ) (i : ℕ) → i < length xs → f (get_or xs i 0) ≡ None → each_of (map f xs) ≡ None
+number_missing f xs i h none = each_missing f xs i (get_or xs i 0) h (get_there xs i (get_or xs i 0) h) none

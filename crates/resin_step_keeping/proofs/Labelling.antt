@@ -1,5 +1,5 @@
 -- Bytes with the objects of their policies.
-use Rattle.std.proofs.Common.{◌≡◌, ℕ, zero, suc, ◌+◌, ◌-◌, ◌<◌, ◌≤◌, Bool, true, false, List, [], ◌∷◌, ◌++◌, length, map, take, drop, get_or, slice_get, None, Some, refl, sym, ap, ◌∙◌, arith, append_assoc, append-nil}
+use Rattle.std.proofs.Common.{◌≡◌, ℕ, zero, suc, ◌+◌, ◌-◌, ◌<◌, ◌≤◌, Bool, true, false, List, [], ◌∷◌, ◌++◌, length, map, take, drop, get_or, slice_get, None, Some, refl, sym, ap, ◌∙◌, arith, append_assoc, append-nil, length-append}
 use Rattle.std.specs.Prelude.{Option, replicate, min, nat_eq, ◌||◌}
 use Rattle.std.specs.List.{list_any, zip}
 use Rattle.std.specs.Option.{option_map_or}
@@ -11,8 +11,8 @@ use Rattle.resin_step_parts.specs.Under.label.Sets.{NumberSet, empty, contains, 
 use Rattle.resin_step_parts.proofs.label_lemmas.Members.{same_by, contains-union, contains-set_of}
 use Rattle.resin_step_parts.specs.Under.lstr.Texts.{Text as LabelledText, carrying}
 use Rattle.resin_step_parts.specs.Under.meaning_forms.Keeping.{labels_for, labelled}
-use Rattle.resin_step_parts.proofs.meaning_lemmas.Composition.{front}
-use Rattle.resin_step_keeping.specs.Sets.{objects_at, labels_at}
+use Rattle.resin_step_parts.proofs.meaning_lemmas.Composition.{front, nothing_left}
+use Rattle.resin_step_keeping.specs.Sets.{TakesRun, objects_at, labels_at}
 use Rattle.resin_step_keeping.proofs.Spelled.{spelled-map}
 
 -- ---- sets of halves
@@ -48,39 +48,50 @@ run_front (suc n) zero s (x ∷ bytes) more a b c = absurd (let e = c (omega ari
 run_front (suc n) (suc k) s [] more a b c = absurd (omega (arith, b))
 run_front (suc n) (suc k) s (x ∷ bytes) more a b c = ap (λ v. (x, s) ∷ v) (run_front n k s bytes more (omega (arith, a)) (omega (arith, b)) (λ h. let e = c (omega (arith, h)) in omega (arith, e)))
 
--- what is left of the bytes, with what is left of the runs
-pub run_read : (sets : List NumberSet) (runs : List PlacedRun) (i : ℕ) (r : PlacedRun) (s : NumberSet) (k : ℕ) (text new : LabelledText) (bytes front_bytes behind : List ℕ) (whole : LabelledText) → i < length runs → r ≡ get_or runs i r → slice_get sets r.1 ≡ Some s
-    → k ≡ min r.0 (length bytes) → front_bytes ≡ take k bytes → behind ≡ drop k bytes → new ≡ text ++ carrying s front_bytes → text ++ zip bytes (spelled_by sets (drop i runs)) ≡ whole
-    → new ++ zip behind (spelled_by sets (drop (i + 1) runs)) ≡ whole
-run_read sets runs i r s k text new bytes front_bytes behind whole h is at count f b n so_far =
-    let more = spelled_by sets (drop (i + 1) runs) in
-    let left : spelled_by sets (drop i runs) ≡ replicate r.0 s ++ more = ap (spelled_by sets) (front runs i r h is) ∙ ap (λ o. option_map_or (replicate r.0) o [] ++ more) at in
-    ap (λ t. t ++ zip behind more) n
-    ∙ append_assoc text (carrying s front_bytes) (zip behind more)
-    ∙ ap (λ v. text ++ (carrying s v ++ zip behind more)) f
-    ∙ ap (λ v. text ++ (carrying s (take k bytes) ++ zip v more)) b
-    ∙ ap (λ v. text ++ v) (sym (run_front r.0 k s bytes more (omega (arith, count)) (omega (arith, count)) (λ l. omega (arith, count, l))))
-    ∙ ap (λ v. text ++ zip bytes v) (sym left)
-    ∙ so_far
+front_size : {X : Type 0} (k : ℕ) (xs : List X) → k ≤ length xs → length (take k xs) ≡ k
+front_size zero xs h = refl
+front_size (suc k) [] h = absurd (omega (arith, h))
+front_size (suc k) (x ∷ xs) h = ap suc (front_size k xs (omega (arith, h)))
 
-pub no_run : (sets : List NumberSet) (runs : List PlacedRun) (i : ℕ) (r : PlacedRun) (text : LabelledText) (bytes : List ℕ) (whole : LabelledText) → i < length runs → r ≡ get_or runs i r → slice_get sets r.1 ≡ None
-    → text ++ zip bytes (spelled_by sets (drop i runs)) ≡ whole → text ++ zip bytes (spelled_by sets (drop (i + 1) runs)) ≡ whole
-no_run sets runs i r text bytes whole h is at so_far =
-    ap (λ v. text ++ zip bytes v) (sym (ap (spelled_by sets) (front runs i r h is) ∙ ap (λ o. option_map_or (replicate r.0) o [] ++ spelled_by sets (drop (i + 1) runs)) at)) ∙ so_far
+length-carrying : (s : NumberSet) (bs : List ℕ) → length (carrying s bs) ≡ length bs
+length-carrying s [] = refl
+length-carrying s (b ∷ bs) = ap suc (length-carrying s bs)
+
+drop-drop : {X : Type 0} (n k : ℕ) (xs : List X) → drop k (drop n xs) ≡ drop (n + k) xs
+drop-drop zero k xs = ap (λ m. drop m xs) (let e : k ≡ 0 + k = omega arith in e)
+drop-drop (suc n) k [] = nothing_left [] k (omega arith) ∙ sym (nothing_left [] (suc n + k) (omega arith))
+drop-drop (suc n) k (x ∷ xs) = drop-drop n k xs ∙ ap (λ m. drop m (x ∷ xs)) (let e : suc (n + k) ≡ suc n + k = omega arith in e)
+
+-- a run of bytes is taken
+pub takes_run : (bytes : List ℕ) (s : NumberSet) (n k : ℕ) (old new : LabelledText) (front_bytes : List ℕ) → k ≡ min n (length (drop (length old) bytes)) → front_bytes ≡ take k (drop (length old) bytes) → new ≡ old ++ carrying s front_bytes
+    → TakesRun bytes (replicate n s) old new
+takes_run bytes s n k old new front_bytes count f e more =
+    let rest = drop (length old) bytes in
+    let size : length new ≡ length old + k = ap length e ∙ length-append old (carrying s front_bytes) ∙ ap (λ n. length old + n) (length-carrying s front_bytes ∙ ap length f ∙ front_size k rest (omega (arith, count))) in
+    ap (λ t. t ++ zip (drop (length new) bytes) more) e
+    ∙ append_assoc old (carrying s front_bytes) (zip (drop (length new) bytes) more)
+    ∙ ap (λ v. old ++ (carrying s v ++ zip (drop (length new) bytes) more)) f
+    ∙ ap (λ v. old ++ (carrying s (take k rest) ++ zip v more)) (ap (λ n. drop n bytes) size ∙ sym (drop-drop (length old) k bytes))
+    ∙ ap (λ v. old ++ v) (sym (run_front n k s rest more (omega (arith, count)) (omega (arith, count)) (λ l. omega (arith, count, l))))
+
+pub get_same : {X : Type 0} (xs : List X) (i : ℕ) (d e : X) → i < length xs → get_or xs i d ≡ get_or xs i e
+get_same [] i d e h = absurd (omega arith)
+get_same (x ∷ xs) zero d e h = refl
+get_same (x ∷ xs) (suc i) d e h = get_same xs i d e (omega arith)
+
+-- a loop over runs goes on
+pub run_taken : (sets : List NumberSet) (runs : List PlacedRun) (i : ℕ) (r : PlacedRun) (old new : LabelledText) (bytes : List ℕ) (whole : LabelledText) → i < length runs → r ≡ get_or runs i r → TakesRun bytes (run_spelled sets r) old new
+    → old ++ zip (drop (length old) bytes) (spelled_by sets (drop i runs)) ≡ whole → new ++ zip (drop (length new) bytes) (spelled_by sets (drop (i + 1) runs)) ≡ whole
+run_taken sets runs i r old new bytes whole h is t so_far =
+    t (spelled_by sets (drop (i + 1) runs)) ∙ ap (λ rs. old ++ zip (drop (length old) bytes) (spelled_by sets rs)) (sym (front runs i r h is)) ∙ so_far
 
 zip-nil : {A B : Type 0} (xs : List A) → zip {X = B} xs [] ≡ []
 zip-nil [] = refl
 zip-nil (x ∷ xs) = refl
 
-dropped : {X : Type 0} (xs : List X) (i : ℕ) → length xs ≤ i → drop i xs ≡ []
-dropped [] zero h = refl
-dropped [] (suc i) h = refl
-dropped (x ∷ xs) zero h = absurd (omega arith)
-dropped (x ∷ xs) (suc i) h = dropped xs i (omega arith)
-
-pub all_read : (sets : List NumberSet) (runs : List PlacedRun) (i : ℕ) (text : LabelledText) (bytes : List ℕ) (whole : LabelledText) → length runs ≤ i → text ++ zip bytes (spelled_by sets (drop i runs)) ≡ whole → text ≡ whole
-all_read sets runs i text bytes whole h so_far =
-    sym (append-nil text) ∙ ap (λ v. text ++ v) (sym (zip-nil bytes)) ∙ ap (λ rs. text ++ zip bytes (spelled_by sets rs)) (sym (dropped runs i h)) ∙ so_far
+pub all_read : (sets : List NumberSet) (runs : List PlacedRun) (i : ℕ) (text : LabelledText) (rest : List ℕ) (whole : LabelledText) → length runs ≤ i → text ++ zip rest (spelled_by sets (drop i runs)) ≡ whole → text ≡ whole
+all_read sets runs i text rest whole h so_far =
+    sym (append-nil text) ∙ ap (λ v. text ++ v) (sym (zip-nil rest)) ∙ ap (λ rs. text ++ zip rest (spelled_by sets rs)) (sym (nothing_left runs i h)) ∙ so_far
 
 -- ---- the whole
 map-map : {X Y Z : Type 0} (f : Y → Z) (g : X → Y) (xs : List X) → map f (map g xs) ≡ map (λ x. f (g x)) xs
