@@ -74,6 +74,10 @@ takes_run bytes s n k old new front_bytes count f e more =
     ∙ ap (λ v. old ++ (carrying s (take k rest) ++ zip v more)) (ap (λ n. drop n bytes) size ∙ sym (drop-drop (length old) k bytes))
     ∙ ap (λ v. old ++ v) (sym (run_front n k s rest more (omega (arith, count)) (omega (arith, count)) (λ l. omega (arith, count, l))))
 
+-- an empty run
+pub no_run_taken : (sets : List NumberSet) (n place : ℕ) (bytes : List ℕ) (text : LabelledText) → slice_get sets place ≡ None → TakesRun bytes (run_spelled sets (n, place)) text text
+no_run_taken sets n place bytes text at more = ap (λ o. text ++ zip (drop (length text) bytes) (option_map_or (replicate n) o [] ++ more)) (sym at)
+
 pub get_same : {X : Type 0} (xs : List X) (i : ℕ) (d e : X) → i < length xs → get_or xs i d ≡ get_or xs i e
 get_same [] i d e h = absurd (omega arith)
 get_same (x ∷ xs) zero d e h = refl
