@@ -14,6 +14,7 @@ use Rattle.resin_step_parts.specs.Under.meaning_forms.Keeping.{labels_for, label
 use Rattle.resin_step_parts.proofs.meaning_lemmas.Composition.{front, nothing_left}
 use Rattle.resin_step_keeping.specs.Sets.{TakesRun, objects_at, labels_at}
 use Rattle.resin_step_keeping.proofs.Spelled.{spelled-map}
+use Rattle.resin_step_keeping.proofs.Answers_of.{take_whole}
 
 -- ---- sets of halves
 any-append : {X : Type 0} (p : X → Bool) (xs ys : List X) → list_any p (xs ++ ys) ≡ (list_any p xs || list_any p ys)
@@ -35,9 +36,17 @@ take-drop zero xs = refl
 take-drop (suc n) [] = refl
 take-drop (suc n) (x ∷ xs) = ap (λ ys. x ∷ ys) (take-drop n xs)
 
-pub halves : (half : ℕ) (ns front behind : List ℕ) (a b s : NumberSet) → front ≡ take half ns → behind ≡ drop half ns → a ≡ labels_of front → b ≡ labels_of behind → s ≡ union a b → s ≡ labels_of ns
+drop_size : {X : Type 0} (n : ℕ) (xs : List X) → length (drop n xs) ≤ length xs - n
+drop_size zero xs = omega arith
+drop_size (suc n) [] = omega arith
+drop_size (suc n) (x ∷ xs) = let h = drop_size n xs in omega (arith, h)
+
+pub all_behind : {X : Type 0} (n : ℕ) (xs : List X) → take (length xs - n) (drop n xs) ≡ drop n xs
+all_behind n xs = take_whole (drop n xs) (length xs - n) (drop_size n xs)
+
+pub halves : (half : ℕ) (ns front behind : List ℕ) (a b s : NumberSet) → front ≡ take half ns → behind ≡ take (length ns - half) (drop half ns) → a ≡ labels_of front → b ≡ labels_of behind → s ≡ union a b → s ≡ labels_of ns
 halves half ns front behind a b s f g e h u =
-    u ∙ ap (λ x. union x b) e ∙ ap (union (labels_of front)) h ∙ union_of front behind ∙ ap (λ xs. labels_of (xs ++ behind)) f ∙ ap (λ ys. labels_of (take half ns ++ ys)) g ∙ ap labels_of (take-drop half ns)
+    u ∙ ap (λ x. union x b) e ∙ ap (union (labels_of front)) h ∙ union_of front behind ∙ ap (λ xs. labels_of (xs ++ behind)) f ∙ ap (λ ys. labels_of (take half ns ++ ys)) (g ∙ all_behind half ns) ∙ ap labels_of (take-drop half ns)
 
 -- ---- bytes with the sets of runs
 run_front : (n k : ℕ) (s : NumberSet) (bytes : List ℕ) (more : List NumberSet) → k ≤ n → k ≤ length bytes → (k < n → k ≡ length bytes) → zip bytes (replicate n s ++ more) ≡ carrying s (take k bytes) ++ zip (drop k bytes) more
@@ -73,6 +82,12 @@ takes_run bytes s n k old new front_bytes count f e more =
     ∙ ap (λ v. old ++ (carrying s v ++ zip (drop (length new) bytes) more)) f
     ∙ ap (λ v. old ++ (carrying s (take k rest) ++ zip v more)) (ap (λ n. drop n bytes) size ∙ sym (drop-drop (length old) k bytes))
     ∙ ap (λ v. old ++ v) (sym (run_front n k s rest more (omega (arith, count)) (omega (arith, count)) (λ l. omega (arith, count, l))))
+
+pub takes_from : (bytes : List ℕ) (s : NumberSet) (n k from : ℕ) (old new : LabelledText) (rest front_bytes : List ℕ) → from ≡ length old → rest ≡ take (length bytes - from) (drop from bytes) → k ≡ min n (length rest) → front_bytes ≡ take k rest → new ≡ old ++ carrying s front_bytes
+    → TakesRun bytes (replicate n s) old new
+takes_from bytes s n k from old new rest front_bytes at r count f e =
+    let whole : rest ≡ drop (length old) bytes = r ∙ all_behind from bytes ∙ ap (λ m. drop m bytes) at in
+    takes_run bytes s n k old new front_bytes (count ∙ ap (λ xs. min n (length xs)) whole) (f ∙ ap (take k) whole) e
 
 -- an empty run
 pub no_run_taken : (sets : List NumberSet) (n place : ℕ) (bytes : List ℕ) (text : LabelledText) → slice_get sets place ≡ None → TakesRun bytes (run_spelled sets (n, place)) text text

@@ -4,7 +4,7 @@ ghost use Rattle.resin_step_keeping.specs.Sets.{TakesRun, labels_at, objects_at}
 ghost use Rattle.resin_step_parts.specs.Under.label.Sets.{set_of as labels_of};
 ghost use Rattle.resin_step_parts.specs.Under.lstr.Texts.{carrying};
 ghost use Rattle.std.specs.List.{zip};
-ghost use Rattle.std.specs.Prelude.{◌≡◌, ◌≤◌, ◌++◌, map, min, length, slice_index_or, IfOk};
+ghost use Rattle.std.specs.Prelude.{◌≡◌, ◌≤◌, ◌++◌, map, min, length, slice_get, slice_index_or, option_copied, IfOk};
 
 use resin_shadow::Parts;
 use resin_step_parts::under::label::PSet;
@@ -109,7 +109,7 @@ fn take_run(
     ensures run { IfOk result (λ longer. TakesRun bytes.now (run_spelled sets.now (len, place)) text longer) }
 {
     let from = text.len();
-    match sets.get(place) {
+    match set_at(sets, place) {
         Some(set) => {
             let rest = &bytes[from..];
             let front = &rest[..front_len(rest, len)];
@@ -118,6 +118,13 @@ fn take_run(
         }
         None => Ok(text),
     }
+}
+
+// The set at a place.
+fn set_at(sets: &[PSet], place: usize) -> Option<&PSet>
+    ensures { option_copied result ≡ slice_get sets.now place }
+{
+    sets.get(place)
 }
 
 // How many bytes a run has of those that are left.
