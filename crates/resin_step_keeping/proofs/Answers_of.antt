@@ -58,7 +58,7 @@ spelled-each f sets answers [] e = refl
 spelled-each f sets answers (r ∷ rs) e =
     ap each_of (map-append f (run_spelled sets r) (spelled_by sets rs))
     ∙ each-append (map f (run_spelled sets r)) (map f (spelled_by sets rs)) (run_spelled answers r) (spelled_by answers rs)
-      (run_answers f r.0 (slice_get sets r.1) (slice_get answers r.1) (answers_at f sets answers r.1 e)) (spelled-each f sets answers rs e)
+    (run_answers f r.0 (slice_get sets r.1) (slice_get answers r.1) (answers_at f sets answers r.1 e)) (spelled-each f sets answers rs e)
 
 -- none is missing exactly where each is there
 pub all_there : {A X : Type 0} (f : X → Option A) (xs : List X) (ys : List A) → each_of (map f xs) ≡ Some ys → list_all (λ x. is_some (f x)) xs ≡ true

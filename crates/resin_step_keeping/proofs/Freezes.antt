@@ -47,8 +47,8 @@ run_put keys new more k runs runs' n place e r at =
     let g = key_more keys new k e in (
       g.0 ++ more,
       ap (spelled_by (new ++ more)) r ∙ spelled-push (new ++ more) runs (n, place)
-      ∙ ap (λ v. spelled_by (new ++ more) runs ++ v) (run_is (new ++ more) n place k (slice-front new more place k at))
-      ∙ ap (λ s. spelled_by s runs ++ replicate n k) (ap (λ s. s ++ more) g.1 ∙ append_assoc keys g.0 more),
+          ∙ ap (λ v. spelled_by (new ++ more) runs ++ v) (run_is (new ++ more) n place k (slice-front new more place k at))
+          ∙ ap (λ s. spelled_by s runs ++ replicate n k) (ap (λ s. s ++ more) g.1 ∙ append_assoc keys g.0 more),
     )
 
 abbrev pub SpelledSoFar : List NumberSet → List PlacedRun → ℕ → List Run → List Run → Type 0
