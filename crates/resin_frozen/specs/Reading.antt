@@ -159,7 +159,7 @@ class_and_fields xs =
 
 -- what a policy text says: the class of a policy, and its fields as an array by their names
 abbrev pub said : List ℕ → Option Said
-said text = option_map (λ r. r.0) (class_and_fields text)
+said xs = option_map (λ r. r.0) (class_and_fields xs)
 
 -- the policy text at the front
 unfoldable pub front : Read (List ℕ)

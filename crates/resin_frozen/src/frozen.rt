@@ -167,6 +167,6 @@ fn told(alloc: Global, f: &Frozen) -> Result<(Bytes, Arr), Stop>
 {
     let mut rest = Rest::new(f.as_slice());
     let (class, fields) = read_policy(alloc, &mut rest)?;
-    let name = Bytes::from_slice(alloc, class)?;
-    Ok((name, fields))
+    let owned = Bytes::from_slice(alloc, class)?;
+    Ok((owned, fields))
 }

@@ -35,7 +35,12 @@ fn begun(alloc: Global, row: &[&str]) -> Result<Option<Machine>, AllocError> {
     if row.get(0).copied() != Some("new") {
         return Ok(None);
     }
-    let fuel = row.get(1).copied().unwrap_or("").parse::<u32>().unwrap_or(0);
+    let fuel = row
+        .get(1)
+        .copied()
+        .unwrap_or("")
+        .parse::<u32>()
+        .unwrap_or(0);
     let mut m = Machine::new(alloc, fuel, 1)?;
     let _line = m.set_line(7);
     Ok(Some(m))

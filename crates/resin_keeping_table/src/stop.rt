@@ -1,8 +1,8 @@
 //! Why a row has no answer.
 
+use resin_step_parts::under::lstr::TextFault;
 use resin_step_parts::under::machine::Stop as MachineStop;
 use resin_step_parts::under::value::ArrFault;
-use resin_step_parts::under::lstr::TextFault;
 use std::alloc::AllocError;
 
 /// Why a call gives no answer.

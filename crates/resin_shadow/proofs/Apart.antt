@@ -52,8 +52,8 @@ module _ (t : Table) (h : IsTable t) where
       let S = map (rising M) t.sets.keys in
       let known = k.0.0 in
       let at : slice_get S r.kind ≡ Some (places (policies V) r.set) =
-        slice_of_map (rising M) t.sets.keys r.kind known.0 known.1
-        ∙ ap Some (ap (rising M) (sym (numbered_is t.sets.keys r.kind known.0 known.1)) ∙ rising_is t h r.kind r.set known i.0) in
+      slice_of_map (rising M) t.sets.keys r.kind known.0 known.1
+      ∙ ap Some (ap (rising M) (sym (numbered_is t.sets.keys r.kind known.0 known.1)) ∙ rising_is t h r.kind r.set known i.0) in
       ap (λ o. option_map_or (replicate r.len) o [] ++ spelled_by S (map (λ r. (r.len, r.kind)) rs)) at
       ∙ ap (λ v. replicate r.len (places (policies V) r.set) ++ v) (runs_apart rs k.1 i.1)
       ∙ ap (λ v. v ++ map (places (policies V)) (marks_of rs)) (sym (same_places (policies V) r.len r.set))

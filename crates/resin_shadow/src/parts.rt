@@ -61,11 +61,7 @@ impl FrozenRuns {
 }
 
 // The sets of lists of texts, which have numbers from now on.
-fn kinds_of(
-    alloc: Global,
-    table: &mut Table,
-    sets: &[FrozenList],
-) -> Result<Vec<Kind>, AllocError>
+fn kinds_of(alloc: Global, table: &mut Table, sets: &[FrozenList]) -> Result<Vec<Kind>, AllocError>
     requires { IsTable table.old }
     ensures table { IsTable table.new }
     ensures runs { table.new.runs.items ≡ table.old.runs.items }
@@ -81,11 +77,7 @@ fn kinds_of(
 }
 
 // Puts runs last, by the places of their sets.
-fn push_all(
-    table: &mut Table,
-    kinds: &[Kind],
-    runs: &[(u64, usize)],
-) -> Result<(), AllocError>
+fn push_all(table: &mut Table, kinds: &[Kind], runs: &[(u64, usize)]) -> Result<(), AllocError>
     requires table { IsTable table.old }
     requires kinds { Each (IsKindOf table.old) kinds.now }
     ensures table { IsTable table.new }
@@ -98,12 +90,7 @@ fn push_all(
 }
 
 // Puts a run last, by the place of its set.
-fn push_placed(
-    table: &mut Table,
-    kinds: &[Kind],
-    len: u64,
-    place: usize,
-) -> Result<(), AllocError>
+fn push_placed(table: &mut Table, kinds: &[Kind], len: u64, place: usize) -> Result<(), AllocError>
     requires table { IsTable table.old }
     requires kinds { Each (IsKindOf table.old) kinds.now }
     ensures table { IsTable table.new }
@@ -124,11 +111,7 @@ fn push_placed(
 }
 
 // The sets of a table in the order of their numbers, each by the places of its texts among those that were met.
-fn sets_in(
-    alloc: Global,
-    table: &Table,
-    met: &IndexSet<usize>,
-) -> Result<Vec<Vec<u64>>, AllocError>
+fn sets_in(alloc: Global, table: &Table, met: &IndexSet<usize>) -> Result<Vec<Vec<u64>>, AllocError>
     ensures { IfOk result (λ sets. map (λ s. s.items) sets.items ≡ map (rising met.now.keys) table.now.sets.keys) }
 {
     let mut sets = Vec::new(alloc);

@@ -21,7 +21,7 @@ pub each-append : {A : Type 0} (os ps : List (Option A)) (ys zs : List A) → ea
 each-append [] ps ys zs e f = f ∙ ap (λ v. Some (v ++ zs)) (some_is [] ys e)
 each-append (o ∷ os) ps ys zs e f =
     let p = first_some o (each_of os) ys e in
-    ap (λ q. with_first q (each_of (os ++ ps))) p.2.0 ∙ ap (with_first (Some p.0)) (each-append os ps p.1 zs p.2.1 f) ∙ ap (λ v. Some (v ++ zs)) (sym p.2.2)
+    ap (λ q. with_first q (each_of (os ++ ps))) p.2 ∙ ap (with_first (Some p.0)) (each-append os ps p.1 zs p.3 f) ∙ ap (λ v. Some (v ++ zs)) (sym p.4)
 
 pub each-same : {A : Type 0} (n : ℕ) (o : Option A) (y : A) → o ≡ Some y → each_of (replicate n o) ≡ Some (replicate n y)
 each-same zero o y e = refl
@@ -32,7 +32,7 @@ pub each-map : {A B X : Type 0} (f : X → Option A) (h : A → B) (xs : List X)
 each-map f h [] ys e = ap (λ v. Some (map h v)) (some_is [] ys e)
 each-map f h (x ∷ xs) ys e =
     let p = first_some (f x) (each_of (map f xs)) ys e in
-    ap (λ q. with_first (option_map h q) (each_of (map (λ x. option_map h (f x)) xs))) p.2.0 ∙ ap (with_first (Some (h p.0))) (each-map f h xs p.1 p.2.1) ∙ ap (λ v. Some (map h v)) (sym p.2.2)
+    ap (λ q. with_first (option_map h q) (each_of (map (λ x. option_map h (f x)) xs))) p.2 ∙ ap (with_first (Some (h p.0))) (each-map f h xs p.1 p.3) ∙ ap (λ v. Some (map h v)) (sym p.4)
 
 -- the answer at a place
 abbrev AnswersAt : {A X : Type 0} → (X → Option A) → Option X → Option A → Type 0
@@ -43,10 +43,10 @@ answers_at : {A X : Type 0} (f : X → Option A) (xs : List X) (ys : List A) (n 
 answers_at f [] ys n e = ap (λ v. slice_get v n) (sym (some_is [] ys e))
 answers_at f (x ∷ xs) ys zero e =
     let p = first_some (f x) (each_of (map f xs)) ys e in
-    (p.0, ap (λ v. slice_get v 0) p.2.2, p.2.0)
+    (p.0, ap (λ v. slice_get v 0) p.4, p.2)
 answers_at f (x ∷ xs) ys (suc n) e =
     let p = first_some (f x) (each_of (map f xs)) ys e in
-    subst (λ v. AnswersAt f (slice_get xs n) (slice_get v (suc n))) (sym p.2.2) (answers_at f xs p.1 n p.2.1)
+    subst (λ v. AnswersAt f (slice_get xs n) (slice_get v (suc n))) (sym p.4) (answers_at f xs p.1 n p.3)
 
 run_answers : {A X : Type 0} (f : X → Option A) (n : ℕ) (o : Option X) (p : Option A) → AnswersAt f o p → each_of (map f (option_map_or (replicate n) o [])) ≡ Some (option_map_or (replicate n) p [])
 run_answers f n None p h = ap (λ q. Some (option_map_or (replicate n) q [])) (sym h)
@@ -58,14 +58,14 @@ spelled-each f sets answers [] e = refl
 spelled-each f sets answers (r ∷ rs) e =
     ap each_of (map-append f (run_spelled sets r) (spelled_by sets rs))
     ∙ each-append (map f (run_spelled sets r)) (map f (spelled_by sets rs)) (run_spelled answers r) (spelled_by answers rs)
-      (run_answers f r.0 (slice_get sets r.1) (slice_get answers r.1) (answers_at f sets answers r.1 e)) (spelled-each f sets answers rs e)
+    (run_answers f r.0 (slice_get sets r.1) (slice_get answers r.1) (answers_at f sets answers r.1 e)) (spelled-each f sets answers rs e)
 
 -- none is missing exactly where each is there
 pub all_there : {A X : Type 0} (f : X → Option A) (xs : List X) (ys : List A) → each_of (map f xs) ≡ Some ys → list_all (λ x. is_some (f x)) xs ≡ true
 all_there f [] ys e = refl
 all_there f (x ∷ xs) ys e =
     let p = first_some (f x) (each_of (map f xs)) ys e in
-    ap (λ o. is_some o && list_all (λ x. is_some (f x)) xs) p.2.0 ∙ all_there f xs p.1 p.2.1
+    ap (λ o. is_some o && list_all (λ x. is_some (f x)) xs) p.2 ∙ all_there f xs p.1 p.3
 
 there_all : {A : Type 0} (o : Option A) (os : Option (List A)) → with_first o os ≡ None → is_some o ≡ true → os ≡ None
 there_all None os e h = absurd (true≢false (sym h))
@@ -109,3 +109,15 @@ pub each_missing : {A X : Type 0} (f : X → Option A) (xs : List X) (i : ℕ) (
 each_missing f [] i x h at none = absurd (omega arith)
 each_missing f (y ∷ xs) zero x h at none = ap (λ o. with_first o (each_of (map f xs))) (ap f (sym at) ∙ none)
 each_missing f (y ∷ xs) (suc i) x h at none = ap (with_first (f y)) (each_missing f xs i x (omega arith) at none) ∙ first_none (f y)
+
+-- the same where the items are numbers
+get_there : (xs : List ℕ) (i d : ℕ) → i < length xs → get_or xs i 0 ≡ get_or xs i d
+get_there [] i d h = absurd (omega arith)
+get_there (x ∷ xs) zero d h = refl
+get_there (x ∷ xs) (suc i) d h = get_there xs i d (omega arith)
+
+pub number_more : {A : Type 0} (f : ℕ → Option A) (xs : List ℕ) (i : ℕ) (y : A) (now new : List A) → i < length xs → each_of (map f (take i xs)) ≡ Some now → f (get_or xs i 0) ≡ Some y → new ≡ now ++ y ∷ [] → each_of (map f (take (i + 1) xs)) ≡ Some new
+number_more f xs i y now new h e is n = each_more f xs i (get_or xs i 0) y now new h (get_there xs i (get_or xs i 0) h) e is n
+
+pub number_missing : {A : Type 0} (f : ℕ → Option A) (xs : List ℕ) (i : ℕ) → i < length xs → f (get_or xs i 0) ≡ None → each_of (map f xs) ≡ None
+number_missing f xs i h none = each_missing f xs i (get_or xs i 0) h (get_there xs i (get_or xs i 0) h) none

@@ -13,6 +13,7 @@ use Rattle.resin_shadow.specs.Marks.{TextSet, Marks}
 use Rattle.resin_shadow.specs.Runs.{set_of}
 use Rattle.resin_shadow.specs.Parts.{PlacedRun, run_spelled, spelled_by}
 use Rattle.resin_step_parts.specs.Under.label.Sets.{NumberSet, same, numbers}
+use Rattle.resin_step_parts.proofs.label_lemmas.Members.{same-decides}
 use Rattle.resin_step_parts.specs.Under.lstr.Texts.{Text as LabelledText, sets_of}
 use Rattle.resin_step_parts.specs.Under.lstr.Runs.{spell, IsCoalesced}
 use Rattle.resin_step_parts.specs.Under.lstr.declared.text.Run.{Run}
@@ -23,12 +24,12 @@ use Rattle.resin_step_parts.specs.Under.machine.State.{State}
 use Rattle.resin_step_parts.specs.Under.meaning_forms.Keeping.{each_of, frozen_policy, frozen_set, frozen_marks, or_not_storable, freeze_text}
 use Rattle.resin_step_parts.specs.Under.meaning_forms.Parts.{looked}
 use Rattle.resin_step_parts.specs.Under.meaning_forms.Runs.{Runs, on_ok}
-use Rattle.resin_step_parts.proofs.meaning_lemmas.Composition.{does_next, does_give, does_unbegun_exit, front}
+use Rattle.resin_step_parts.proofs.meaning_lemmas.Composition.{does_next, does_give, does_unbegun_exit, front, nothing_left}
 use Rattle.resin_step_parts.proofs.Answered.{does_looked}
 use Rattle.resin_step_parts.proofs.Steps.{does_faulted, does_handed}
 use Rattle.resin_step_keeping.specs.Sets.{Covers, Stores, AreFrozen}
 use Rattle.resin_step_keeping.proofs.Spelled.{none_some, some_is, slice-front, spelled-push, run_is, all-append, both_true, first_of_same}
-use Rattle.resin_step_keeping.proofs.Answers_of.{each-map, spelled-each, all_there, not_missing, each_missing}
+use Rattle.resin_step_keeping.proofs.Answers_of.{each-map, spelled-each, all_there, not_missing, each_missing, number_missing}
 
 -- ---- the sets and the runs of a text
 
@@ -46,8 +47,8 @@ run_put keys new more k runs runs' n place e r at =
     let g = key_more keys new k e in (
       g.0 ++ more,
       ap (spelled_by (new ++ more)) r ∙ spelled-push (new ++ more) runs (n, place)
-      ∙ ap (λ v. spelled_by (new ++ more) runs ++ v) (run_is (new ++ more) n place k (slice-front new more place k at))
-      ∙ ap (λ s. spelled_by s runs ++ replicate n k) (ap (λ s. s ++ more) g.1 ∙ append_assoc keys g.0 more),
+          ∙ ap (λ v. spelled_by (new ++ more) runs ++ v) (run_is (new ++ more) n place k (slice-front new more place k at))
+          ∙ ap (λ s. spelled_by s runs ++ replicate n k) (ap (λ s. s ++ more) g.1 ∙ append_assoc keys g.0 more),
     )
 
 abbrev pub SpelledSoFar : List NumberSet → List PlacedRun → ℕ → List Run → List Run → Type 0
@@ -81,31 +82,32 @@ covered_more keys new runs runs' n place k h e p at so_far more test all =
 
 pub spelled_whole : (keys : List NumberSet) (runs : List PlacedRun) (from : ℕ) (rs : List Run) (i : ℕ) → length rs ≤ i → SpelledSoFar keys runs from (drop i rs) rs → spelled_by keys runs ≡ spell 0 rs
 spelled_whole keys runs from rs i h so_far =
-    sym (ap (λ s. spelled_by s runs ++ spell from (drop i rs)) (append-nil keys) ∙ ap (λ ys. spelled_by keys runs ++ spell from ys) (dropped rs i h) ∙ append-nil (spelled_by keys runs)) ∙ so_far []
-  where
-    dropped : (rs : List Run) (i : ℕ) → length rs ≤ i → drop i rs ≡ []
-    dropped rs i h = grind arith
+    sym (ap (λ s. spelled_by s runs ++ spell from (drop i rs)) (append-nil keys) ∙ ap (λ ys. spelled_by keys runs ++ spell from ys) (nothing_left rs i h) ∙ append-nil (spelled_by keys runs)) ∙ so_far []
 
 pub covered_whole : (keys : List NumberSet) (runs : List PlacedRun) (sets : List NumberSet) → spelled_by keys runs ≡ sets → CoveredSoFar keys runs → Covers sets keys
 covered_whole keys runs sets e so_far test all = so_far [] test (ap (λ s. list_all test (spelled_by s runs)) (append-nil keys) ∙ ap (list_all test) e ∙ all)
 
 -- ---- policy texts that are known
 
+known_here : (m : State) (p : ℕ × List ℕ) (rest : Option (List ℕ)) (o : ℕ) (t : List ℕ) → frozen_policy m p.0 ≡ Some p.1 → (rest ≡ Some t → frozen_policy m o ≡ Some t) → (b : Bool) → nat_eq o p.0 ≡ b → cond b (Some p.1) rest ≡ Some t → frozen_policy m o ≡ Some t
+known_here m p rest o t h go true is e = let same_number : o ≡ p.0 = grind (arith, nat_tests) in ap (frozen_policy m) same_number ∙ h ∙ e
+known_here m p rest o t h go false is e = go e
+
 pub known_text : (m : State) (es : List (ℕ × List ℕ)) (o : ℕ) (t : List ℕ) → AreFrozen m es → lookup (nat_eq o) es ≡ Some t → frozen_policy m o ≡ Some t
 known_text m [] o t h e = absurd (none_some t e)
-known_text m (p ∷ es) o t h e = by (nat_eq o p.0) refl e
-  where
-    by : (b : Bool) → nat_eq o p.0 ≡ b → cond b (Some p.1) (lookup (nat_eq o) es) ≡ Some t → frozen_policy m o ≡ Some t
-    by true is e = let same_number : o ≡ p.0 = grind (arith, nat_tests) in ap (frozen_policy m) same_number ∙ h.0 ∙ e
-    by false is e = known_text m es o t h.1 e
+known_text m (p ∷ es) o t h e = known_here m p (lookup (nat_eq o) es) o t h.0 (known_text m es o t h.1) (nat_eq o p.0) refl e
+
+text_here : (m : State) (p : ℕ × List ℕ) (es more : List (ℕ × List ℕ)) (o : ℕ) (t : List ℕ) → frozen_policy m p.0 ≡ Some p.1 → AreFrozen m es → AreFrozen m more → frozen_policy m o ≡ Some t → (b : Bool) → nat_eq o p.0 ≡ b → AreFrozen m (cond b ((p.0, t) ∷ es) (p ∷ more))
+text_here m p es more o t h k l e true is = let same_number : p.0 ≡ o = grind (arith, nat_tests) in (ap (frozen_policy m) same_number ∙ e, k)
+text_here m p es more o t h k l e false is = (h, l)
 
 pub text_known : (m : State) (es : List (ℕ × List ℕ)) (o : ℕ) (t : List ℕ) → AreFrozen m es → frozen_policy m o ≡ Some t → AreFrozen m (insert_entry nat_eq es o t)
 text_known m [] o t h e = (e, tt)
-text_known m (p ∷ es) o t h e = by (nat_eq o p.0) refl
-  where
-    by : (b : Bool) → nat_eq o p.0 ≡ b → AreFrozen m (cond b ((p.0, t) ∷ es) (p ∷ insert_entry nat_eq es o t))
-    by true is = let same_number : p.0 ≡ o = grind (arith, nat_tests) in (ap (frozen_policy m) same_number ∙ e, h.1)
-    by false is = (h.0, text_known m es o t h.1 e)
+text_known m (p ∷ es) o t h e = text_here m p es (insert_entry nat_eq es o t) o t h.0 h.1 (text_known m es o t h.1 e) e (nat_eq o p.0) refl
+
+-- the set that was found there
+pub run_stored : (keys : List NumberSet) (place : ℕ) (k set run : NumberSet) → slice_get keys place ≡ Some k → same set k ≡ true → set ≡ run → slice_get keys place ≡ Some run
+run_stored keys place k set run at is e = at ∙ ap Some (sym ((same-decides set k).0 is) ∙ e)
 
 -- ---- the whole
 
@@ -165,3 +167,7 @@ stores_handed out line s r is h = let e = err_from_is_err_and r is in rw (e.1, e
 
 pub stores_lost : {A : Type 0} (out : Option A) (line : ℕ) (r : Result A Stop) → IsErrAnd r (λ e. e ≡ Memory) → Stores out line r
 stores_lost out line r is = stores_handed out line Memory r is (inr refl)
+
+pub number_stores : {A : Type 0} (f : ℕ → Option A) (xs : List ℕ) (i : ℕ) (line : ℕ) (s : Stop) → i < length xs → Stores (f (get_or xs i 0)) line (Err s) → Stores {A = List A} (each_of (map f xs)) line (Err s)
+number_stores f xs i line s h (inl e) = inl (e.0, number_missing f xs i h e.1)
+number_stores f xs i line s h (inr e) = inr e

@@ -1,5 +1,5 @@
 -- Thawing an entry, by what its parts answered.
-use Rattle.std.proofs.Common.{◌≡◌, ℕ, ◌+◌, ◌<◌, ◌≤◌, Bool, true, false, cond, List, [], ◌∷◌, ◌++◌, length, map, drop, get_or, slice_get, None, Some, Result, Ok, Err, IsErrAnd, refl, sym, ap, subst, ◌∙◌, arith}
+use Rattle.std.proofs.Common.{◌≡◌, ℕ, suc, ◌+◌, ◌<◌, ◌≤◌, Bool, true, false, cond, List, [], ◌∷◌, ◌++◌, length, map, drop, get_or, slice_get, None, Some, Result, Ok, Err, IsErrAnd, refl, sym, ap, subst, ◌∙◌, arith}
 use Rattle.std.specs.Prelude.{Option, nat_lt, codes}
 use Rattle.std.proofs.lemmas.Result.{err_from_is_err_and}
 use Rattle.resin_frozen.specs.Reading.{Said, said}
@@ -140,7 +140,7 @@ made_text d count ps objects text m m1 m2 n p h g e f u k =
 
 length-map : {X Y : Type 0} (f : X → Y) (xs : List X) → length (map f xs) ≡ length xs
 length-map f [] = refl
-length-map f (x ∷ xs) = ap (λ n. n + 1) (length-map f xs)
+length-map f (x ∷ xs) = ap suc (length-map f xs)
 
 size_by : (l : LabelledEntry) (e : Entry) → plain l ≡ e → size l ≡ length e.bytes
 size_by (Good d v) e h = sym (length-map (λ b. b.0) d) ∙ ap (λ x. length x.bytes) h
@@ -155,13 +155,13 @@ is_long n h = grind arith
 isnt_long : (n : ℕ) → n ≤ LONGEST → nat_lt LONGEST n ≡ false
 isnt_long n h = grind arith
 
+abbrev faulted_long : Prog LabelledText
+faulted_long = faulted TextTooLong
+
 pub too_long : (e : Entry) (m : State) (s : Stop) → LONGEST < length e.bytes → s ≡ Fault TextTooLong m.line → Runs (thaw_entry (lift e)) m (Err s) m
 too_long e m s h is =
-    runs_as (thaw_entry (lift e)) (faulted_long) m (Err s) m (ap (λ b. cond b faulted_long (thaw_short (lift e))) (is_long (size (lift e)) (subst (λ n. LONGEST < n) (sym (size_is e)) h)))
+    runs_as (thaw_entry (lift e)) faulted_long m (Err s) m (ap (λ b. cond b faulted_long (thaw_short (lift e))) (is_long (size (lift e)) (subst (λ n. LONGEST < n) (sym (size_is e)) h)))
     (does_faulted TextTooLong m s is)
-  where
-    abbrev faulted_long : Prog LabelledText
-    faulted_long = faulted TextTooLong
 
 by_short : (e : Entry) (m : State) (r : Result LabelledText Stop) (m' : State) → length e.bytes ≤ LONGEST → Runs (thaw_short (lift e)) m r m' → Runs (thaw_entry (lift e)) m r m'
 by_short e m r m' h = runs_as (thaw_entry (lift e)) (thaw_short (lift e)) m r m' (ap (λ b. cond b (faulted TextTooLong) (thaw_short (lift e))) (isnt_long (size (lift e)) (subst (λ n. n ≤ LONGEST) (sym (size_is e)) h)))
@@ -187,7 +187,7 @@ marked_lost d m r is f u k = does_unbegun_exit (act (charge (length (policies (m
 
 short_lost : (l : LabelledEntry) (m : State) (r : Result LabelledText Stop) → IsErrAnd r (λ x. x ≡ Memory) → Runs (thaw_short l) m r m
 short_lost (Good d version) m r is = marked_lost d m r is
-short_lost (Bad bytes shadow) m r is f u k = does_lost_act (faults BadShadow) r is
+short_lost (Bad bytes shadow) m r is = λ f u k. does_lost_act (faults BadShadow) r is
 
 pub entry_lost : (e : Entry) (m : State) (r : Result LabelledText Stop) → length e.bytes ≤ LONGEST → IsErrAnd r (λ x. x ≡ Memory) → Runs (thaw_entry (lift e)) m r m
 entry_lost e m r h is = by_short e m r m h (short_lost (lift e) m r is)

@@ -1,7 +1,8 @@
 -- What functions ensure that freeze the policies of a text, or make sets of objects.
-use Rattle.std.specs.Prelude.{◌≡◌, ◌⊎◌, ℕ, Bool, true, List, [], ◌∷◌, map, slice_index_or, Option, None, Some, Result, Ok, Err}
-use Rattle.std.specs.List.{list_all}
+use Rattle.std.specs.Prelude.{◌≡◌, ◌⊎◌, ℕ, Bool, true, List, [], ◌∷◌, ◌++◌, length, drop, map, slice_index_or, Option, None, Some, Result, Ok, Err}
+use Rattle.std.specs.List.{list_all, zip}
 use Rattle.resin_step_parts.specs.Under.label.Sets.{NumberSet, set_of as labels_of}
+use Rattle.resin_step_parts.specs.Under.lstr.Texts.{Text as LabelledText}
 use Rattle.resin_step_parts.specs.Under.scalar.declared.faults.ScriptFault.TheVariants.{NotStorable}
 use Rattle.resin_step_parts.specs.Under.machine.declared.stop.Stop.{Stop}
 use Rattle.resin_step_parts.specs.Under.machine.declared.stop.Stop.TheVariants.{Fault, Memory}
@@ -29,3 +30,7 @@ objects_at objects places = map (λ place. slice_index_or objects place 0) place
 -- the set of the objects at places
 abbrev pub labels_at : List ℕ → List ℕ → NumberSet
 labels_at objects places = labels_of (objects_at objects places)
+
+-- one text came of another by bytes that carry these sets: those behind as many as were there, and what is behind them is left
+abbrev pub TakesRun : List ℕ → List NumberSet → LabelledText → LabelledText → Type 0
+TakesRun bytes run old new = (more : List NumberSet) → new ++ zip (drop (length new) bytes) more ≡ old ++ zip (drop (length old) bytes) (run ++ more)

@@ -24,8 +24,11 @@ pub fn freeze_text(alloc: Global, m: &Machine, t: &LText) -> Result<FrozenRuns, 
     ensures { Runs (freeze_text t.now) m.now result m.now }
 {
     let parts = set_runs(alloc, t)?;
-    let lists = freeze_sets(alloc, m, parts.sets.as_slice())?;
-    let runs = FrozenRuns::from_parts(alloc, &lists, &parts.runs)?;
+    let sets = parts.sets.as_slice();
+    let lists = freeze_sets(alloc, m, sets)?;
+    let texts = lists.as_slice();
+    let places = parts.runs.as_slice();
+    let runs = FrozenRuns::from_parts(alloc, texts, places)?;
     Ok(runs)
 }
 

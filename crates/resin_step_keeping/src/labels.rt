@@ -1,10 +1,10 @@
 //! Bytes with the objects of their policies.
-ghost use Rattle.resin_shadow.specs.Parts.{spelled_by};
-ghost use Rattle.resin_step_keeping.specs.Sets.{labels_at, objects_at};
+ghost use Rattle.resin_shadow.specs.Parts.{run_spelled, spelled_by};
+ghost use Rattle.resin_step_keeping.specs.Sets.{TakesRun, labels_at, objects_at};
 ghost use Rattle.resin_step_parts.specs.Under.label.Sets.{set_of as labels_of};
 ghost use Rattle.resin_step_parts.specs.Under.lstr.Texts.{carrying};
 ghost use Rattle.std.specs.List.{zip};
-ghost use Rattle.std.specs.Prelude.{◌≡◌, ◌++◌, map, min, length, IfOk};
+ghost use Rattle.std.specs.Prelude.{◌≡◌, ◌≤◌, ◌++◌, map, min, length, slice_get, slice_index_or, option_copied, IfOk};
 
 use resin_shadow::Parts;
 use resin_step_parts::under::label::PSet;
@@ -90,15 +90,41 @@ fn spelled(
     ensures { IfOk result (λ t. t ≡ zip bytes.now (spelled_by sets.now runs.now)) }
 {
     let mut text = Builder::new(alloc);
-    let mut rest = bytes;
     for (len, place) in runs {
-        if let Some(set) = sets.get(*place) {
-            let (front, behind) = rest.split_at(front_len(rest, *len));
-            text = append(text, front, set)?;
-            rest = behind;
-        }
+        text = take_run(text, bytes, sets, *len, *place)?;
     }
     text.finish()
+}
+
+// Puts the bytes of a run last: those behind as many as are there.
+fn take_run(
+    text: Builder,
+    bytes: &[u8],
+    sets: &[PSet],
+    len: u64,
+    place: usize,
+) -> Result<Builder, AllocError>
+    requires { length text ≤ length bytes.now }
+    ensures within { IfOk result (λ longer. length longer ≤ length bytes.now) }
+    ensures run { IfOk result (λ longer. TakesRun bytes.now (run_spelled sets.now (len, place)) text longer) }
+{
+    let from = text.len();
+    match set_at(sets, place) {
+        Some(set) => {
+            let rest = &bytes[from..];
+            let front = &rest[..front_len(rest, len)];
+            let longer = append(text, front, set)?;
+            Ok(longer)
+        }
+        None => Ok(text),
+    }
+}
+
+// The set at a place.
+fn set_at(sets: &[PSet], place: usize) -> Option<&PSet>
+    ensures { option_copied result ≡ slice_get sets.now place }
+{
+    sets.get(place)
 }
 
 // How many bytes a run has of those that are left.

@@ -4,7 +4,7 @@ ghost use Rattle.resin_step_parts.specs.Under.heap.declared.prelude.PreludeClass
 ghost use Rattle.resin_step_parts.specs.Under.meaning_forms.Keeping as meaning;
 ghost use Rattle.resin_step_parts.specs.Under.meaning_forms.Runs.{Runs, on_ok};
 ghost use Rattle.resin_step_parts.specs.Under.value.declared.key.Key.{Key as AnyKey};
-ghost use Rattle.std.specs.Prelude.{◌≡◌, [], Some, None};
+ghost use Rattle.std.specs.Prelude.{◌≡◌, ◌<◌, [], length};
 
 use crate::labels::labelled;
 use crate::lists::put;
@@ -33,7 +33,8 @@ pub fn thaw_entry(alloc: Global, m: &mut Machine, entry: &Entry) -> Result<LText
     if bytes.len() > MAX_LEN {
         return Err(m.fault(ScriptFault::TextTooLong));
     }
-    match policies_of(alloc, entry)? {
+    let runs = policies_of(alloc, entry)?;
+    match runs {
         Some(runs) => thaw_marked(alloc, m, bytes, &runs),
         None => Err(m.fault(ScriptFault::BadShadow)),
     }
@@ -52,7 +53,8 @@ fn thaw_marked(
     let policies = parts.policies.as_slice();
     m.charge(policies.len() as u64)?;
     let objects = thaw_policies(alloc, m, policies)?;
-    let text = labelled(alloc, bytes, &objects, &parts)?;
+    let numbers = objects.as_slice();
+    let text = labelled(alloc, bytes, numbers, &parts)?;
     Ok(text)
 }
 
@@ -72,10 +74,11 @@ fn thaw_policies(alloc: Global, m: &mut Machine, texts: &[Frozen]) -> Result<Vec
 fn thaw_policy(alloc: Global, m: &mut Machine, text: &Frozen) -> Result<u32, Stop>
     ensures { Runs (meaning.thaw_policy text.now) m.old result m.new }
 {
-    let (name, fields) = said(alloc, text)?;
-    match policy_class(m, name.as_slice()) {
+    let (class, fields) = said(alloc, text)?;
+    let name = class.as_slice();
+    match policy_class(m, name) {
         Some(class) => make_policy(m, class, &fields),
-        None => make_lost(alloc, m, name.as_slice(), fields),
+        None => make_lost(alloc, m, name, fields),
     }
 }
 

@@ -12,4 +12,4 @@ returns-in_err-class c =
 pub returns : goal.returns
 returns c =
     let same : c.new-rest.result ≡ c.args.f.now = c.new-rest.ensures ∙ c.as_slice.ensures.bytes in
-    tells c.args.f.now c.new-rest.result c.read_policy.new.rest c.in_ok-class.class.now c.in_ok-name.name c.in_ok-class.fields same c.in_ok-class.ensures.fields c.in_ok-name.ensures
+    tells c.args.f.now c.new-rest.result c.read_policy.new.rest c.in_ok-class.class.now c.in_ok-owned.owned c.in_ok-class.fields same c.in_ok-class.ensures.fields c.in_ok-owned.ensures

@@ -15,9 +15,9 @@ loop-set-preserved c = record {
 
 pub returns-in_err-list : goal.returns-in_err-list
 returns-in_err-list c =
-    stores_as (λ v. v.items) _ c.args.m.now.line c.in_err-list.field-0 _ c.from_residual.ensures.1
-    (stores_missing (λ s. each_of (map (frozen_policy c.args.m.now) (numbers s))) c.args.sets.now c.loop-set.set-index c.set-item.result c.args.m.now.line c.in_err-list.field-0 c.loop-set-test.true c.set-item.is
-    (subst (λ ns. Stores (each_of (map (frozen_policy c.args.m.now) ns)) c.args.m.now.line (Err c.in_err-list.field-0)) c.as_slice.ensures.members c.in_err-list.ensures.texts))
+    stores_as (λ v. v.items) _ c.args.m.now.line c.in_err-list.field-0.0 _ c.from_residual.ensures.1
+    (stores_missing (λ s. each_of (map (frozen_policy c.args.m.now) (numbers s))) c.args.sets.now c.loop-set.set-index c.set-item.result c.args.m.now.line c.in_err-list.field-0.0 c.loop-set-test.true c.set-item.is
+    (subst (λ ns. Stores (each_of (map (frozen_policy c.args.m.now) ns)) c.args.m.now.line (Err c.in_err-list.field-0.0)) c.as_slice.ensures.members c.in_err-list.ensures.texts))
 
 pub returns-in_err-put : goal.returns-in_err-put
 returns-in_err-put c = stores_as (λ v. v.items) _ c.args.m.now.line _ _ c.from_residual-in_err-put.ensures.1 (inr refl)

@@ -12,3 +12,12 @@ loop-run-preserved c =
       covered = covered_more c.loop-run.sets.keys c.push_run.new.sets.keys c.loop-run.runs.items c.push_run.new.runs.items _ p.0 c.run-item.result.set (omega (arith, r.0)) c.in_ok-push_run.ensures.sets p.1 p.2 c.loop-run.invariant.covered;
       coalesced = r.1;
     }
+
+pub returns-clause-spelled : goal.returns-clause-spelled
+returns-clause-spelled c =
+    spelled_whole c.loop-run.sets.keys c.loop-run.runs.items c.loop-run.from c.runs-run-items.result.now c.loop-run.run-index c.loop-run-test.false c.loop-run.invariant.spelled ∙ c.runs-run-items.ensures.spelled
+
+pub returns-clause-covered : goal.returns-clause-covered
+returns-clause-covered c =
+    covered_whole c.loop-run.sets.keys c.loop-run.runs.items _
+    (spelled_whole c.loop-run.sets.keys c.loop-run.runs.items c.loop-run.from c.runs-run-items.result.now c.loop-run.run-index c.loop-run-test.false c.loop-run.invariant.spelled ∙ c.runs-run-items.ensures.spelled) c.loop-run.invariant.covered

@@ -1,3 +1,4 @@
+use Rattle.std.proofs.Common.{arith}
 use Rattle.resin_step_keeping.proofs.Thaws.{field_more, field_stops, field_lost, fields_done}
 use Rattle.resin_step_parts.proofs.Steps.{leaves_here}
 use Rattle.resin_step_keeping.proofs.thawing.set_fields.Goals as goal
@@ -18,4 +19,4 @@ returns-in_err-set_field c =
     field_stops c.args.object c.args.fields.now.entries c.loop-i.i c.entry.result.0.now c.entry.result.1.now c.in_ok-clone.field-0 c.name_in.result.now _ _ _ _ _ c.entry.ensures c.name_in.ensures c.in_ok-clone.ensures.cases c.in_err-set_field.ensures.acts c.loop-i.invariant c.from_residual-in_err-set_field.ensures.1
 
 pub returns : goal.returns
-returns c = fields_done c.args.object c.args.fields.now.entries c.loop-i.i _ _ c.loop-i-test.false c.loop-i.invariant
+returns c = fields_done c.args.object c.args.fields.now.entries c.loop-i.i _ _ (omega (arith, c.loop-i-test.false, c.len-i-end.ensures.value)) c.loop-i.invariant

@@ -3,7 +3,7 @@ use Rattle.resin_step_parts.proofs.Steps.{leaves_here}
 use Rattle.resin_step_keeping.proofs.thawing.thaw_policies.Goals as goal
 
 pub loop-text-init : goal.loop-text-init
-loop-text-init c = rw c.new.ensures (leaves_here _ _)
+loop-text-init c = rw c.new-objects.ensures.items (leaves_here _ _)
 
 pub loop-text-preserved : goal.loop-text-preserved
 loop-text-preserved c =
