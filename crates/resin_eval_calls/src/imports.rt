@@ -21,8 +21,8 @@ use resin_eval_channels::under::machine::{Machine, Stop};
 use resin_eval_channels::under::meaning_forms::Course;
 use resin_eval_channels::under::ops::to_text;
 use resin_eval_channels::under::step_keeping::thawing::thaw_entry;
-use resin_eval_channels::under::tree::Import;
 use resin_eval_channels::under::value::Value;
+use resin_tree::Import;
 use std::alloc::Global;
 
 /// Imports, by an evaluator.

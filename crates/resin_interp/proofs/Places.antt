@@ -4,7 +4,7 @@ use Rattle.std.specs.Prelude.{if◌then◌else◌}
 use Rattle.resin_lex.specs.Lines.{ends_line, line_ends, line_of}
 use Rattle.resin_lex.specs.declared.token.ParseFault.{ParseFault}
 use Rattle.resin_lex.specs.declared.token.ParseFault.TheVariants as fault
-use Rattle.resin_eval_calls.specs.Under.tree.declared.declaration.Program.{Program}
+use Rattle.resin_tree.specs.declared.declaration.Program.{Program}
 use Rattle.resin_eval_calls.specs.Under.scalar.declared.faults.ScriptFault.TheVariants.{Syntax, TooDeep}
 use Rattle.resin_eval_calls.specs.Under.machine.declared.stop.Stop.TheVariants.{Fault, Memory}
 use Rattle.resin_program_grammar.specs.Parsed.{IsAsParsed, parsed}

@@ -7,9 +7,9 @@ ghost use Rattle.resin_lex.specs.Lines.{line_of};
 
 use resin_eval_calls::under::machine::{Machine, Stop};
 use resin_eval_calls::under::scalar::ScriptFault;
-use resin_eval_calls::under::tree::Program;
 use resin_lex::{ParseFault, line_of};
 use resin_parse::program;
+use resin_tree::Program;
 use std::alloc::Global;
 
 const MOST_TEXT: usize = 16_777_216;

@@ -11,8 +11,8 @@ use resin_eval_calls::under::eval_nested::run::Run;
 use resin_eval_calls::under::machine::Stop;
 use resin_eval_calls::under::meaning_forms::{Course, Flow};
 use resin_eval_calls::under::step_parts::names::find_callee;
-use resin_eval_calls::under::tree::Program;
 use resin_eval_calls::under::value::{Value, Values};
+use resin_tree::Program;
 use std::alloc::{AllocError, Global};
 use std::marker::PhantomData;
 
