@@ -3,7 +3,7 @@ pub mod Buffered
 pub mod Cases
 pub mod Counts
 pub mod Exits
-pub mod Inputs
+pub mod InputLemmas
 pub mod Places
 pub mod Rooms
 pub mod Shapes

@@ -4,7 +4,7 @@ use Rattle.resin_eval_calls.specs.Under.meaning_forms.Programs.{evals}
 use Rattle.resin_eval_calls.proofs.eval_nested_lemmas.Arms.{does_settled}
 use Rattle.resin_eval_calls.proofs.eval_nested_lemmas.Exits.{does_is}
 use Rattle.resin_eval_calls.proofs.meaning_lemmas.Composition.{does_exit, does_give, does_next, leads_here, nothing_left}
-use Rattle.resin_interp.proofs.Inputs.{entry_at, lawful_at, unbegun_entries}
+use Rattle.resin_interp.proofs.InputLemmas.{entry_at, lawful_at, unbegun_entries}
 use Rattle.resin_interp.proofs.inputs.Inputs.filtered_array.Goals as goal
 
 pub returns-in_err-all : goal.returns-in_err-all

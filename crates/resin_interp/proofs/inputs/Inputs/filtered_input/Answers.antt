@@ -1,6 +1,6 @@
 use Rattle.resin_eval_calls.proofs.eval_nested_lemmas.Exits.{does_is, does_seen_exit}
 use Rattle.resin_eval_calls.proofs.meaning_lemmas.Composition.{does_give, does_next}
-use Rattle.resin_interp.proofs.Inputs.{no_array, of_array, unbegun_input}
+use Rattle.resin_interp.proofs.InputLemmas.{no_array, of_array, unbegun_input}
 use Rattle.resin_interp.proofs.inputs.Inputs.filtered_input.Goals as goal
 
 pub returns-in_err-context : goal.returns-in_err-context

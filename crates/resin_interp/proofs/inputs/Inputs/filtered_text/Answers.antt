@@ -2,7 +2,7 @@ use Rattle.resin_eval_calls.proofs.meaning_lemmas.Composition.{does_give, does_n
 use Rattle.resin_eval_calls.proofs.eval_nested_lemmas.Exits.{does_is, does_seen_exit, does_seen_none, does_seen_unbegun}
 use Rattle.resin_eval_calls.proofs.eval_nested_lemmas.Arms.{does_given}
 use Rattle.resin_eval_calls.specs.Under.value.Seen.{tree_of}
-use Rattle.resin_interp.proofs.Inputs.{no_text}
+use Rattle.resin_interp.proofs.InputLemmas.{no_text}
 use Rattle.std.proofs.Common.{ap}
 use Rattle.resin_interp.proofs.inputs.Inputs.filtered_text.Goals as goal
 
