@@ -10,19 +10,34 @@ use std::alloc::AllocError;
 /// A constant expression: the value of a property or a parameter that is given no other. A `-` before an integer is
 /// part of the number.
 #[cycle(constants)]
-#[derive(Drop)]
 pub enum Constant {
     Literal(Literal),
     Array(Items<ConstantItem>),
 }
 
+impl Drop for Constant {
+    #[cycle(drops_of_constants)]
+    fn drop(self) {
+        match self {
+            Constant::Literal(_) => {}
+            Constant::Array(_) => {}
+        }
+    }
+}
+
 /// One item of a constant array.
 #[cycle(constants)]
-#[derive(Drop)]
 pub struct ConstantItem {
     /// What stands before `=>`, where it is written.
     pub key: Option<Constant>,
     pub value: Constant,
+}
+
+impl Drop for ConstantItem {
+    #[cycle(drops_of_constants)]
+    fn drop(self) {
+        let ConstantItem { key: _, value: _ } = self;
+    }
 }
 
 /// A parameter, by its name without the `$`.

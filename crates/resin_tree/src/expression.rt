@@ -23,12 +23,21 @@ pub enum ConstantName {
 }
 
 /// What a source text spells as a value of its own.
-#[derive(Drop)]
 pub enum Literal {
     Int(i64),
     /// A text without interpolation, its escapes worked out.
     Text(SharedBytes),
     Constant(ConstantName),
+}
+
+impl Drop for Literal {
+    fn drop(self) {
+        match self {
+            Literal::Int(_) => {}
+            Literal::Text(_) => {}
+            Literal::Constant(_) => {}
+        }
+    }
 }
 
 /// An operator before one operand.
@@ -87,7 +96,6 @@ pub enum Import {
 
 /// An expression. Brackets round one leave no trace.
 #[cycle(tree)]
-#[derive(Drop)]
 pub enum Expr {
     Literal(Literal),
     /// `$v`, by its name without the `$`.
@@ -103,18 +111,40 @@ pub enum Expr {
     Call(Call),
 }
 
+impl Drop for Expr {
+    #[cycle(drops_of_expressions)]
+    fn drop(self) {
+        match self {
+            Expr::Literal(_) => {}
+            Expr::Variable(_) => {}
+            Expr::Array(_) => {}
+            Expr::Join(_) => {}
+            Expr::Access(_) => {}
+            Expr::Operation(_) => {}
+            Expr::Test(_) => {}
+            Expr::Assignment(_) => {}
+            Expr::Call(_) => {}
+        }
+    }
+}
+
 /// One item of an array.
 #[cycle(tree)]
-#[derive(Drop)]
 pub struct ArrayItem {
     /// What stands before `=>`, where it is written.
     pub key: Option<Boxed<Expr>>,
     pub value: Boxed<Expr>,
 }
 
+impl Drop for ArrayItem {
+    #[cycle(drops_of_expressions)]
+    fn drop(self) {
+        let ArrayItem { key: _, value: _ } = self;
+    }
+}
+
 /// A part of a value that is read.
 #[cycle(tree)]
-#[derive(Drop)]
 pub enum Access {
     /// `a[e]`
     Index(Boxed<Expr>, Boxed<Expr>),
@@ -122,9 +152,18 @@ pub enum Access {
     Property(Boxed<Expr>, SharedBytes),
 }
 
+impl Drop for Access {
+    #[cycle(drops_of_expressions)]
+    fn drop(self) {
+        match self {
+            Access::Index(_, _) => {}
+            Access::Property(_, _) => {}
+        }
+    }
+}
+
 /// An operator whose operands are all evaluated.
 #[cycle(tree)]
-#[derive(Drop)]
 pub enum Operation {
     Unary(Unary, Boxed<Expr>),
     Combine(Combining, Boxed<Expr>, Boxed<Expr>),
@@ -133,9 +172,20 @@ pub enum Operation {
     InstanceOf(Boxed<Expr>, SharedBytes),
 }
 
+impl Drop for Operation {
+    #[cycle(drops_of_expressions)]
+    fn drop(self) {
+        match self {
+            Operation::Unary(_, _) => {}
+            Operation::Combine(_, _, _) => {}
+            Operation::Compare(_, _, _) => {}
+            Operation::InstanceOf(_, _) => {}
+        }
+    }
+}
+
 /// A form that evaluates only what it needs, or asks whether a value is there.
 #[cycle(tree)]
-#[derive(Drop)]
 pub enum Test {
     /// `a && b`
     And(Boxed<Expr>, Boxed<Expr>),
@@ -153,12 +203,36 @@ pub enum Test {
     Empty(Boxed<Expr>),
 }
 
+impl Drop for Test {
+    #[cycle(drops_of_expressions)]
+    fn drop(self) {
+        match self {
+            Test::And(_, _) => {}
+            Test::Or(_, _) => {}
+            Test::Coalesce(_, _) => {}
+            Test::Choice(_, _, _) => {}
+            Test::Either(_, _) => {}
+            Test::Isset(_) => {}
+            Test::Empty(_) => {}
+        }
+    }
+}
+
 /// What is assigned to, or unset: a variable and the postfixes behind it, from the left.
 #[cycle(tree)]
-#[derive(Drop)]
 pub struct Target {
     pub variable: SharedBytes,
     pub path: Items<PathStep>,
+}
+
+impl Drop for Target {
+    #[cycle(drops_of_expressions)]
+    fn drop(self) {
+        let Target {
+            variable: _,
+            path: _,
+        } = self;
+    }
 }
 
 /// One postfix of a target.
@@ -175,7 +249,6 @@ pub enum PathStep {
 
 /// A form that writes to a target.
 #[cycle(tree)]
-#[derive(Drop)]
 pub enum Assignment {
     /// `t = e`
     Assign(Target, Boxed<Expr>),
@@ -193,9 +266,23 @@ pub enum Assignment {
     PostDecrement(Target),
 }
 
+impl Drop for Assignment {
+    #[cycle(drops_of_expressions)]
+    fn drop(self) {
+        match self {
+            Assignment::Assign(_, _) => {}
+            Assignment::Compound(_, _, _) => {}
+            Assignment::CoalesceAssign(_, _) => {}
+            Assignment::PreIncrement(_) => {}
+            Assignment::PreDecrement(_) => {}
+            Assignment::PostIncrement(_) => {}
+            Assignment::PostDecrement(_) => {}
+        }
+    }
+}
+
 /// A form that runs code of another place.
 #[cycle(tree)]
-#[derive(Drop)]
 pub enum Call {
     /// `f(args)`, by the name as it is written.
     Function(SharedBytes, Items<Expr>),
@@ -207,4 +294,17 @@ pub enum Call {
     New(SharedBytes, Items<Expr>),
     /// `include e` and its kin.
     Import(Import, Boxed<Expr>),
+}
+
+impl Drop for Call {
+    #[cycle(drops_of_expressions)]
+    fn drop(self) {
+        match self {
+            Call::Function(_, _) => {}
+            Call::Method(_, _, _) => {}
+            Call::Parent(_, _) => {}
+            Call::New(_, _) => {}
+            Call::Import(_, _) => {}
+        }
+    }
 }

@@ -1,6 +1,9 @@
 //! The trees of the language: programs, declarations, statements and expressions.
 //!
 //! Lists, boxes and shared parts are seen in contracts as what they hold, so a tree is plain data there.
+//!
+//! Trees have a `drop` of their own, which is no other than a derived one would be: it is proved here once, and not again in
+//! each crate that lets a tree go, behind each fault that it may meet. A step of a path alone is taken apart by the crates above.
 #![tactic(auto)]
 
 mod declaration;
