@@ -13,3 +13,4 @@ pub mod Turning
 pub mod Ending
 pub mod Finding
 pub mod Apart
+pub mod Behind

@@ -75,6 +75,7 @@ impl FrozenRuns {
         requires count { length self.old + length more.now < 2 ^ 64 }
         ensures { OnOk result (self.new ≡ self.old ++ more.now) }
     {
+        let _len = more.len();
         for run in more.runs() {
             self.push(run.len, &run.set)?;
         }
