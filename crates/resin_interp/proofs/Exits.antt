@@ -24,7 +24,7 @@ use Rattle.resin_eval_calls.specs.Under.meaning_forms.Merges.{fold_on, fold_sets
 use Rattle.resin_eval_calls.specs.Under.meaning_forms.Functions.{format_arguments}
 use Rattle.resin_eval_calls.specs.Under.meaning_forms.Channels.{unbuilt}
 use Rattle.resin_eval_calls.specs.Under.scalar.declared.faults.ScriptFault.TheVariants.{UndefinedFunction}
-use Rattle.resin_eval_calls.specs.Under.meaning_forms.Programs.{file, flow_of, program_end}
+use Rattle.resin_eval_calls.specs.Under.meaning_forms.Programs.{flow_of, program_end}
 use Rattle.resin_eval_calls.specs.Under.meaning_forms.declared.course.Course.{Course}
 use Rattle.resin_eval_calls.specs.Under.meaning_forms.declared.course.Flow.{Flow}
 use Rattle.resin_eval_calls.specs.Under.meaning_forms.declared.course.Flow.TheVariants.{Exit as Exited}
