@@ -4,5 +4,6 @@
 pub mod ops {
     pub use resin_ops::{Arith, arith, index_text, to_int, to_key, to_number, to_text};
 }
+
 pub use resin_ops::under::value;
 pub use resin_text_fn as text_fn;

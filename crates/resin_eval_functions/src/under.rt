@@ -2,6 +2,7 @@
 
 /// `resin_eval_merges`
 pub mod eval_merges {
-    pub use resin_eval_merges::{merges};
+    pub use resin_eval_merges::merges;
 }
+
 pub use resin_eval_merges::under::step_functions;

@@ -2,7 +2,11 @@
 
 /// `resin_heap`
 pub mod heap {
-    pub use resin_heap::{ClassFault, Classes, Heap, MOST_CLASSES, MOST_METHODS, MOST_OBJECTS, MethodAt, Object, ObjectFields, PRELUDE, PRELUDE_LEN, PreludeClass, PreludeMethod, class_laws, object_laws};
+    pub use resin_heap::{
+        ClassFault, Classes, Heap, MOST_CLASSES, MOST_METHODS, MOST_OBJECTS, MethodAt, Object,
+        ObjectFields, PRELUDE, PRELUDE_LEN, PreludeClass, PreludeMethod, class_laws, object_laws,
+    };
 }
+
 pub use resin_heap::under::{items, scalar, tree};
 pub use resin_stage::under::journal;

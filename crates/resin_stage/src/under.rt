@@ -4,4 +4,5 @@
 pub mod scope {
     pub use resin_scope::{Chains, NameMap, Page, Scopes};
 }
+
 pub use resin_scope::under::journal;

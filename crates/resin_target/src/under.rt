@@ -4,6 +4,7 @@
 pub mod machine {
     pub use resin_machine::{Finished, Machine, Stage, Stop};
 }
+
 pub use resin_machine::under::{heap, items, journal, tree};
 /// `resin_ops`
 pub mod ops {
