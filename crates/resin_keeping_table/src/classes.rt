@@ -4,10 +4,10 @@ ghost use Rattle.resin_scan.specs.Words.{IsName};
 
 use crate::fields::bytes_in;
 use crate::stop::Stop;
+use resin_scan::bytes::{begins_name, byte, name_len};
 use resin_step_parts::under::machine::Machine;
 use resin_step_parts::under::tree::{ClassDecl, Items, Name, Shared, SharedBytes};
 use std::alloc::Global;
-use resin_scan::bytes::{begins_name, byte, name_len};
 
 #[tactic(auto, using(crate::proofs::Names::named))]
 fn is_name(bytes: &[u8]) -> bool

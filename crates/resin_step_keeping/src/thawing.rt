@@ -16,8 +16,8 @@ use resin_step_parts::under::heap::PreludeClass;
 use resin_step_parts::under::lstr::{LText, MAX_LEN};
 use resin_step_parts::under::machine::{Machine, Stop};
 use resin_step_parts::under::scalar::ScriptFault;
-use resin_step_parts::under::value::{Arr, Key, Value};
 use resin_step_parts::under::store::policies_of;
+use resin_step_parts::under::value::{Arr, Key, Value};
 use std::alloc::Global;
 
 /// The text that a read makes of an entry: its bytes, each with an object for each of its policies. TextTooLong comes exactly where there are more than
