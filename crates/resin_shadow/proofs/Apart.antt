@@ -1,21 +1,21 @@
 -- The sets of a table and its runs, apart.
-use Rattle.std.proofs.Common.{◌≡◌, ℕ, zero, suc, ◌+◌, ◌<◌, List, [], ◌∷◌, ◌++◌, length, map, take, slice_get, get_or, None, Some, refl, sym, ap, subst, ◌∙◌, arith, append_assoc, append-nil}
-use Rattle.std.specs.Prelude.{Option, option_copied, replicate}
+use Rattle.std.proofs.Common.{◌≡◌, ℕ, zero, suc, ◌+◌, ◌<◌, ◌≤◌, List, [], ◌∷◌, ◌++◌, length, map, take, slice_get, get_or, None, Some, Result, Ok, Err, refl, sym, ap, ◌∙◌, arith, append_assoc, append-nil}
+use Rattle.std.specs.Prelude.{Option, OnOk, replicate}
 use Rattle.std.specs.List.{flat_map}
 use Rattle.std.specs.Option.{option_map, option_map_or, option_to_list}
+use Rattle.std.proofs.lemmas.Option.{slice_get_past, slice_get_read, slice_get-map}
 use Rattle.resin_frozen.proofs.Numbers.{none_some}
 use Rattle.resin_shadow.specs.declared.table.FrozenRun.{FrozenRun}
 use Rattle.resin_shadow.specs.declared.table.Kind.{Kind}
 use Rattle.resin_shadow.specs.declared.table.Table.{Table}
 use Rattle.resin_shadow.specs.Marks.{TextSet, Marks, Each, policies}
 use Rattle.resin_shadow.specs.Shadows.{places}
-use Rattle.resin_shadow.specs.Runs.{run_of, marks_of, set_of, Related, HasNumber, HasKind, IsKind, IsKindOf, IsTable}
+use Rattle.resin_shadow.specs.Runs.{run_of, marks_of, set_of, Related, HasNumber, IsKind, IsTable}
 use Rattle.resin_shadow.specs.Printed.{sets_met, texts_met, rising}
 use Rattle.resin_shadow.specs.Parts.{PlacedRun, run_spelled, spelled_by, texts_at}
 use Rattle.resin_shadow.proofs.First_met.{texts_related, numbered_is}
 use Rattle.resin_shadow.proofs.Places.{AreIn}
 use Rattle.resin_shadow.proofs.Encoded.{rising_is, runs_in}
-use Rattle.resin_shadow.proofs.Kept.{each_map}
 use Rattle.resin_shadow.proofs.Loops.{take_next}
 
 -- the texts that numbers stand for are those at their places
@@ -99,14 +99,26 @@ pub kinds_next : (now new : List Kind) (k : Kind) (lists : List (List (List ℕ)
 kinds_next now new k lists i list h at e n is =
     map_next set_of (map (λ k. k.set) now) (map (λ k. k.set) new) k.set lists i list h at e (ap (map (λ k. k.set)) n ∙ map-more (λ k. k.set) now (k ∷ [])) is
 
--- kinds stay those of a table while its sets and texts stay
-pub kinds_same : (t u : Table) (ks : List Kind) → u.sets.keys ≡ t.sets.keys → u.texts.keys ≡ t.texts.keys → Each (IsKindOf t) ks → Each (IsKindOf u) ks
-kinds_same t u ks s x h =
-    each_map (IsKindOf t) (IsKindOf u) ks
-    (λ k p. (subst (λ ss. HasKind ss u.texts.keys k.number k.set) (sym s) (subst (λ ts. HasKind t.sets.keys ts k.number k.set) (sym x) p.0), p.1)) h
-
 -- an item of a list is the same whatever stands for none
 pub get_same : {X : Type 0} (xs : List X) (i : ℕ) (d e : X) → i < length xs → get_or xs i d ≡ get_or xs i e
 get_same [] i d e h = absurd (omega arith)
 get_same (x ∷ xs) zero d e h = refl
 get_same (x ∷ xs) (suc i) d e h = get_same xs i d e (omega arith)
+
+-- ---- a run by the place of its set
+
+-- no set has the place
+pub not_there : (kinds : List Kind) (n place : ℕ) (v : Marks) → length kinds ≤ place → v ≡ v ++ run_spelled (map (λ k. k.set) kinds) (n, place)
+not_there kinds n place v h =
+    sym (append-nil v)
+    ∙ ap (λ o. v ++ option_map_or (replicate n) o []) (sym (slice_get-map (λ k. k.set) kinds place ∙ ap (option_map (λ k. k.set)) (slice_get_past kinds place h)))
+
+-- a set has it
+pub is_there : (kinds : List Kind) (n place : ℕ) (k : Kind) (v w : Marks) → place < length kinds → k ≡ get_or kinds place k → w ≡ v ++ replicate n k.set → w ≡ v ++ run_spelled (map (λ k. k.set) kinds) (n, place)
+is_there kinds n place k v w lt at is =
+    is
+    ∙ ap (λ o. v ++ option_map_or (replicate n) o []) (sym (slice_get-map (λ k. k.set) kinds place ∙ ap (option_map (λ k. k.set)) (slice_get_read kinds (length kinds) place k refl lt at)))
+
+pub ok_then : {A E P Q : Type 0} (r : Result A E) → (P → Q) → OnOk r P → OnOk r Q
+ok_then (Ok x) f h = f h
+ok_then (Err e) f h = h

@@ -1,7 +1,8 @@
 use Rattle.std.proofs.Common.{map, get_or}
 use Rattle.resin_shadow.specs.Runs.{marks_of}
 use Rattle.resin_shadow.specs.Parts.{run_spelled}
-use Rattle.resin_shadow.proofs.Apart.{flat_next, kinds_same, get_same}
+use Rattle.resin_shadow.proofs.Tables.{kinds_same}
+use Rattle.resin_shadow.proofs.Apart.{flat_next, get_same}
 use Rattle.resin_shadow.proofs.parts.push_all.Goals as goal
 
 pub loop-len-preserved : goal.loop-len-preserved
