@@ -33,8 +33,8 @@ IMPORTS_NOT_BUILT = frozenset("include include_once require require_once".split(
 FUNCTIONS = FUNCTIONS_NOT_BUILT | COUNTS.keys()
 
 CLASSES = frozenset(
-    "ArgumentCountError ArithmeticError DivisionByZeroError Error Exception Filter NoExport Policy PolicyException SqlException Throwable TypeError "
-    "ValueError".split()
+    "ArgumentCountError ArithmeticError DivisionByZeroError Error Exception Filter LostPolicy NoExport Policy PolicyException SqlException Throwable "
+    "TypeError ValueError".split()
 )
 
 SERVER_KEYS = frozenset("REQUEST_METHOD REQUEST_URI QUERY_STRING".split())

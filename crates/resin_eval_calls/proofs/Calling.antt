@@ -10,7 +10,7 @@ use Rattle.resin_eval_channels.specs.Under.meaning.Programs.{act, ◌>>=◌}
 use Rattle.resin_eval_channels.specs.Under.meaning_forms.Parts.{Evals}
 use Rattle.resin_eval_channels.specs.Under.meaning_forms.Names.{find_callee}
 use Rattle.resin_eval_channels.specs.Under.meaning_forms.Invoke.{find_method, run_method}
-use Rattle.resin_eval_channels.specs.Under.meaning_forms.Channels.{unbuilt}
+use Rattle.resin_eval_channels.specs.Under.meaning_forms.Imports.{import_value}
 use Rattle.resin_eval_channels.specs.Under.meaning_forms.Calls.{call_form, call_found, class_to_make, new_object, object_of, parent_class, values}
 
 pub function_form : (ev : Evals) (name : List ℕ) (es : List Expr) → call_form ev (Function name es) ≡ (find_callee name >>= λ callee. values ev es >>= λ vs. call_found ev name callee vs)
@@ -27,5 +27,5 @@ parent_form ev name es = rw (outs-Parent name es, call_form) refl
 pub new_form : (ev : Evals) (name : List ℕ) (es : List Expr) → call_form ev (New name es) ≡ (class_to_make name >>= λ class. values ev es >>= λ vs. new_object ev class vs)
 new_form ev name es = rw (outs-New name es, call_form) refl
 
-pub import_form : (ev : Evals) (kind : ImportKind) (e : Expr) → call_form ev (Import kind e) ≡ unbuilt
+pub import_form : (ev : Evals) (kind : ImportKind) (e : Expr) → call_form ev (Import kind e) ≡ (ev.expr e >>= λ v. import_value ev kind v)
 import_form ev kind e = rw (outs-Import kind e, call_form) refl

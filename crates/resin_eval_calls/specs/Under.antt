@@ -11,6 +11,7 @@ pub use Rattle.resin_eval_channels.specs.Under.meaning_forms
 pub use Rattle.resin_eval_channels.specs.Under.scalar
 pub use Rattle.resin_eval_channels.specs.Under.scope
 pub use Rattle.resin_eval_channels.specs.Under.stage
+pub use Rattle.resin_eval_channels.specs.Under.store
 pub use Rattle.resin_eval_channels.specs.Under.target
 pub use Rattle.resin_eval_channels.specs.Under.tree
 pub use Rattle.resin_eval_channels.specs.Under.value

@@ -11,6 +11,7 @@ ghost use Rattle.resin_eval_channels.specs.Under.value.Seen.{tree_of, trees_of};
 ghost use Rattle.std.specs.Option.{option_map};
 ghost use Rattle.std.specs.Prelude.{map};
 
+use crate::imports::Importer;
 use resin_eval_channels::channels::Sender;
 use resin_eval_channels::under::base::{Files, Tables};
 use resin_eval_channels::under::eval_functions::arguments::Builtins;
@@ -156,11 +157,11 @@ impl<
         Ok(Value::Obj(o))
     }
 
-    /// A call as it is written: of a function, a method, a method of the parent class, or `new`. What it reaches is found first, then its arguments are evaluated from
+    /// A call as it is written: of a function, a method, a method of the parent class, `new`, or an import. What it reaches is found first, then its arguments are evaluated from
     /// the left, and then it runs. A constructor runs where the class has one.
     ///
-    /// What isn't there is the fault that says so: UndefinedFunction, UndefinedMethod, UndefinedClass; what is no object is BadOperand. An import is UndefinedFunction
-    /// until imports are built. Else it stops as its parts and the code that it runs do.
+    /// What isn't there is the fault that says so: UndefinedFunction, UndefinedMethod, UndefinedClass; what is no object is BadOperand. Else it stops
+    /// as its parts, the import and the code that it runs do.
     pub fn called(&self, run: &mut Run<F, T>, c: &Call) -> Result<Value, Stop>
         requires { Nests F.Files T.Tables N.pre N.post self.now.by.now }
         ensures { Performs F.Files T.Tables (form.call_form (means self.now.by.now) c.now) run.old result run.new }
@@ -192,7 +193,10 @@ impl<
                 let args = self.by.values(run, es.as_slice())?;
                 self.new_object(run, class, args)
             }
-            Call::Import(_, _) => Err(run.machine.fault(ScriptFault::UndefinedFunction)),
+            Call::Import(kind, e) => {
+                let v = self.by.expr(run, e.get())?;
+                Importer { by: self.by }.import(run, *kind, &v)
+            }
         }
     }
 }

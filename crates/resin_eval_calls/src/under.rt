@@ -1,6 +1,6 @@
 //! What this crate stands on, passed on to the crates above, which list this one alone.
 
 pub use resin_eval_channels::under::{
-    base, bytes, eval_merges, eval_nested, eval_writes, items, journal, label, lstr, machine,
-    meaning_forms, scalar, step_parts, tree, value,
+    base, bytes, eval_merges, eval_nested, eval_writes, heap, items, journal, label, lstr, machine,
+    meaning_forms, ops, scalar, step_keeping, step_parts, store, tree, value,
 };

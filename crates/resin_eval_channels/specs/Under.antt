@@ -13,6 +13,7 @@ pub use Rattle.resin_eval_writes.specs.Under.scope
 pub use Rattle.resin_eval_writes.specs.Under.stage
 pub use Rattle.resin_eval_writes.specs.Under.step_objects
 pub use Rattle.resin_eval_writes.specs.Under.step_parts
+pub use Rattle.resin_eval_writes.specs.Under.store
 pub use Rattle.resin_eval_writes.specs.Under.target
 pub use Rattle.resin_eval_writes.specs.Under.tree
 pub use Rattle.resin_eval_writes.specs.Under.value

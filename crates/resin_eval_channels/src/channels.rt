@@ -1,8 +1,8 @@
-//! Functions of channels once their arguments are evaluated: headers, the status, mail and output buffers.
+//! Functions of channels once their arguments are evaluated: headers, the status, mail, output buffers and files.
 ghost use Rattle.resin_eval_writes.specs.Under.meaning_forms.Channels.{flushed, is_count, is_one_line, is_open, leave_status, mail_context, only_looks, status_in, text_or_false};
 ghost use Rattle.resin_eval_writes.specs.Under.meaning_forms.Forms as form;
 ghost use Rattle.resin_eval_writes.specs.Under.meaning_forms.Runs.{Runs, on_ok};
-ghost use Rattle.resin_eval_writes.specs.Under.meaning_forms.declared.callee.ChannelFunction.TheVariants.{Header, Mail, ResponseCode};
+ghost use Rattle.resin_eval_writes.specs.Under.meaning_forms.declared.callee.ChannelFunction.TheVariants.{FileExists, FileGetContents, FilePutContents, Header, Mail, ResponseCode, Unlink};
 ghost use Rattle.resin_eval_writes.specs.Under.eval_nested.Nested.{Nests, means};
 ghost use Rattle.resin_eval_writes.specs.Under.eval_nested.Running.{Performs};
 ghost use Rattle.resin_eval_writes.specs.Under.lstr.Texts.{bytes_of};
@@ -14,6 +14,7 @@ ghost use Rattle.resin_eval_writes.specs.Under.value.Seen.{tree_of, trees_of};
 ghost use Rattle.resin_eval_writes.specs.Under.value.Trees.{text as text_tree};
 ghost use Rattle.std.specs.Prelude.{Err, IfOk, [], decimal, if◌then◌else◌, ◌&&◌, ◌≡◌, ◌∷◌};
 
+use crate::files::{Shelf, exists, flags_in, unlink};
 use resin_eval_functions::arguments::Builtins;
 use resin_eval_functions::under::step_functions::functions::miscounted;
 use resin_eval_writes::leaving::{context_of, text_key, with_text};
@@ -197,6 +198,50 @@ impl<
         }
     }
 
+    // A file is written: its path, the data and perhaps the flags are the arguments.
+    fn put_work(&self, run: &mut Run<F, T>, args: &[Value]) -> Result<Value, Stop>
+        requires { Nests F.Files T.Tables N.pre N.post self.now.by.now }
+        ensures { Performs F.Files T.Tables (form.channel_work (means self.now.by.now) FilePutContents (trees_of args.now)) run.old (on_ok tree_of result) run.new }
+    {
+        match args {
+            [Value::Text(path), Value::Text(data), rest @ ..] => {
+                Shelf { by: self.by }.put_contents(run, path.bytes(), data, flags_in(rest))
+            }
+            _ => unbuilt(&run.machine),
+        }
+    }
+
+    // A file is read: its path is the first argument.
+    fn get_work(&self, run: &mut Run<F, T>, args: &[Value]) -> Result<Value, Stop>
+        requires { Nests F.Files T.Tables N.pre N.post self.now.by.now }
+        ensures { Performs F.Files T.Tables (form.channel_work (means self.now.by.now) FileGetContents (trees_of args.now)) run.old (on_ok tree_of result) run.new }
+    {
+        match args {
+            [Value::Text(path), ..] => Shelf { by: self.by }.get_contents(run, path.bytes()),
+            _ => unbuilt(&run.machine),
+        }
+    }
+
+    // A file is taken out: its path is the first argument.
+    fn unlink_work(&self, run: &mut Run<F, T>, args: &[Value]) -> Result<Value, Stop>
+        ensures { Performs F.Files T.Tables (form.channel_work (means self.now.by.now) Unlink (trees_of args.now)) run.old (on_ok tree_of result) run.new }
+    {
+        match args {
+            [Value::Text(path), ..] => unlink(run, path.bytes()),
+            _ => unbuilt(&run.machine),
+        }
+    }
+
+    // A file is looked for: its path is the first argument.
+    fn exists_work(&self, run: &mut Run<F, T>, args: &[Value]) -> Result<Value, Stop>
+        ensures { Performs F.Files T.Tables (form.channel_work (means self.now.by.now) FileExists (trees_of args.now)) run.old (on_ok tree_of result) run.new }
+    {
+        match args {
+            [Value::Text(path), ..] => exists(run, path.bytes()),
+            _ => unbuilt(&run.machine),
+        }
+    }
+
     // The work of a call.
     fn channel_work(
         &self,
@@ -221,10 +266,10 @@ impl<
             ChannelFunction::Header => self.header_work(run, args),
             ChannelFunction::ResponseCode => self.status_work(run, args),
             ChannelFunction::Mail => self.mail_work(run, args),
-            ChannelFunction::FilePutContents => unbuilt(&run.machine),
-            ChannelFunction::FileGetContents => unbuilt(&run.machine),
-            ChannelFunction::Unlink => unbuilt(&run.machine),
-            ChannelFunction::FileExists => unbuilt(&run.machine),
+            ChannelFunction::FilePutContents => self.put_work(run, args),
+            ChannelFunction::FileGetContents => self.get_work(run, args),
+            ChannelFunction::Unlink => self.unlink_work(run, args),
+            ChannelFunction::FileExists => self.exists_work(run, args),
             ChannelFunction::SqlQuery => unbuilt(&run.machine),
         }
     }

@@ -2,4 +2,5 @@
 #![tactic(auto)]
 
 pub mod channels;
+pub mod files;
 pub mod under;

@@ -8,10 +8,11 @@ pub mod eval_functions {
 pub use resin_eval_functions::under::eval_merges;
 /// `resin_eval_writes`
 pub mod eval_writes {
-    pub use resin_eval_writes::{headers, leaving, writes};
+    pub use resin_eval_writes::{headers, leaving, reading, writes};
 }
 
 pub use resin_eval_writes::under::{
-    base, bytes, eval_nested, items, journal, label, lstr, machine, meaning_forms, scalar,
-    step_objects, step_parts, tree, value,
+    base, bytes, eval_nested, heap, items, journal, label, lstr, machine, meaning_forms, ops,
+    scalar, step_objects, step_parts, store, tree, value,
 };
+pub use resin_step_keeping as step_keeping;

@@ -1,7 +1,7 @@
 -- Ends of arms that the composition of programs leaves over: what is read off the state, faults, values, and tests.
 use Rattle.std.proofs.Common.{◌≡◌, ℕ, Bool, true, false, cond, Result, Ok, Err, inl, refl, arith, IsErrAnd}
 use Rattle.std.proofs.lemmas.Result.{err_from_is_err_and}
-use Rattle.resin_step_objects.specs.Under.base.FileStore.{FileStore}
+use Rattle.resin_step_objects.specs.Under.store.Files.{LabelledFiles}
 use Rattle.resin_step_objects.specs.Under.base.TableStore.{TableStore}
 use Rattle.resin_step_objects.specs.Under.base.declared.calls.Calls.{Calls}
 use Rattle.resin_step_objects.specs.Under.scalar.declared.faults.CallStop.{CallStop}
@@ -28,15 +28,15 @@ pub does_none : {A : Type 0} (v : A) {u : World} (r : Result A Stop) → IsErrAn
 does_none v r h = let e = err_from_is_err_and r h in rw (e.1, e.2) (does_nothing (give v) (λ failing at. inl refl))
 
 -- a script fault at the running line
-pub does_faulted : {A : Type 0} (fault : ScriptFault) (m : State) {f : Seen FileStore} {t : Seen TableStore} {c : Calls} {s : Stop} → s ≡ Fault fault m.line → Does (faulted {A = A} fault) (world m f t c) (Err s) (world m f t c)
+pub does_faulted : {A : Type 0} (fault : ScriptFault) (m : State) {f : Seen LabelledFiles} {t : Seen TableStore} {c : Calls} {s : Stop} → s ≡ Fault fault m.line → Does (faulted {A = A} fault) (world m f t c) (Err s) (world m f t c)
 does_faulted {A = A} fault m {f = f} {t = t} {c = c} e = rw e (does_act (faults {A = A} fault) f t c (record { acted = refl; ticks = omega arith; keeps = keeps_same m; ties = λ ne h. h }))
 
 -- something is read off the state
-pub does_looked : {A : Type 0} (read : State → A) (m : State) {f : Seen FileStore} {t : Seen TableStore} {c : Calls} {x : A} → x ≡ read m → Does (looked read) (world m f t c) (Ok x) (world m f t c)
+pub does_looked : {A : Type 0} (read : State → A) (m : State) {f : Seen LabelledFiles} {t : Seen TableStore} {c : Calls} {x : A} → x ≡ read m → Does (looked read) (world m f t c) (Ok x) (world m f t c)
 does_looked {A = A} read m {f = f} {t = t} {c = c} e = rw e (does_act (λ (s : State). let p : Result A Stop × State = (Ok (read s), s) in p) f t c (record { acted = refl; ticks = omega arith; keeps = keeps_same m; ties = λ ne h. h }))
 
 -- a computation and then `settle`
-pub does_settled : {A : Type 0} (rule given : Result A CallStop) {m m' : State} {r : Result A Stop} {f : Seen FileStore} {t : Seen TableStore} {c : Calls} → GivesOrNoMemory given rule → ActsLoosely (settled given) m r m' → Does (computed rule) (world m f t c) r (world m' f t c)
+pub does_settled : {A : Type 0} (rule given : Result A CallStop) {m m' : State} {r : Result A Stop} {f : Seen LabelledFiles} {t : Seen TableStore} {c : Calls} → GivesOrNoMemory given rule → ActsLoosely (settled given) m r m' → Does (computed rule) (world m f t c) r (world m' f t c)
 does_settled rule given {m = m} {m' = m'} {r = r} {f = f} {t = t} {c = c} g h = does_loosely (settled rule) f t c (answered_step (settled rule) rule given m r m' g refl h)
 
 -- a test that holds, and one that doesn't

@@ -1,7 +1,7 @@
 -- Exits of functions whose end is seen otherwise, and want of memory before a program begins.
 use Rattle.std.proofs.Common.{◌≡◌, ℕ, Option, Result, Ok, Err, inl, refl, sym, subst, IsErrAnd}
 use Rattle.std.proofs.lemmas.Result.{err_from_is_err_and}
-use Rattle.resin_step_objects.specs.Under.base.FileStore.{FileStore}
+use Rattle.resin_step_objects.specs.Under.store.Files.{LabelledFiles}
 use Rattle.resin_step_objects.specs.Under.base.TableStore.{TableStore}
 use Rattle.resin_step_objects.specs.Under.base.declared.calls.Calls.{Calls}
 use Rattle.resin_step_objects.specs.Under.machine.declared.stop.Stop.{Stop}
@@ -32,7 +32,7 @@ pub does_seen_none : {B C : Type 0} (v : B) (g : C → B) {u : World} (r : Resul
 does_seen_none v g r h = let e = err_from_is_err_and r h in rw (e.1, e.2) (does_nothing (give v) (λ failing at. inl refl))
 
 -- no memory to open a call
-pub does_unopened : {A : Type 0} (class : Option ℕ) (p : Prog A) (m m' : State) {f : Seen FileStore} {t : Seen TableStore} {c : Calls} {s : Stop} (r : Result A Stop) → IsErrAnd r (λ e. e ≡ s)
+pub does_unopened : {A : Type 0} (class : Option ℕ) (p : Prog A) (m m' : State) {f : Seen LabelledFiles} {t : Seen TableStore} {c : Calls} {s : Stop} (r : Result A Stop) → IsErrAnd r (λ e. e ≡ s)
     → ◌≡◌ {A = Result (Option ℕ) Stop} (Err s) (Err Memory) × (m' ≡ m) → Does (framed class p) (world m f t c) r (world m' f t c)
 does_unopened class p m m' {s = s} r h k =
     let e = err_from_is_err_and r h in

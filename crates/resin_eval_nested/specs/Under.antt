@@ -15,6 +15,7 @@ pub use Rattle.resin_step_objects.specs.Under.scope
 pub use Rattle.resin_step_objects.specs.Under.stage
 pub use Rattle.resin_step_objects.specs as step_objects
 pub use Rattle.resin_step_objects.specs.Under.step_parts
+pub use Rattle.resin_step_objects.specs.Under.store
 pub use Rattle.resin_step_objects.specs.Under.target
 pub use Rattle.resin_step_objects.specs.Under.tree
 pub use Rattle.resin_step_objects.specs.Under.value

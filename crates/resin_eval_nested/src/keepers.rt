@@ -2,6 +2,8 @@
 //! exactly where no number is left. After want of memory neither the keeper nor the numbers are changed.
 ghost use Rattle.resin_eval_nested.specs.Running.{Performs};
 ghost use Rattle.resin_step_objects.specs.Under.meaning.KeeperCalls as asked;
+ghost use Rattle.resin_step_objects.specs.Under.meaning.KeeperCalls.{lifted};
+ghost use Rattle.resin_step_objects.specs.Under.store.Entries.{Marked, AreWritten};
 
 use crate::run::Run;
 use resin_step_objects::under::base::{Cells, Columns, Entry, Files, Rows, Tables};
@@ -14,14 +16,14 @@ use resin_step_objects::under::meaning::{
 impl<F: Files, T: Tables> Run<F, T> {
     /// The entry at a path, `None` exactly where there is none.
     pub fn read_file(&mut self, path: &[u8]) -> Result<Option<Entry>, Stop>
-        ensures { Performs F.Files T.Tables (asked.read_file path.now) self.old result self.new }
+        ensures { Performs F.Files T.Tables (asked.read_file path.now) self.old (lifted result) self.new }
     {
         read_file(&self.machine, &mut self.files, &mut self.calls, path)
     }
 
-    /// Sets the bytes and the shadow text at a path.
+    /// Sets the bytes and the shadow text at a path. Where the shadow text is what is written of policies of these bytes, it sets the bytes with these policies.
     pub fn write_file(&mut self, path: &[u8], bytes: &[u8], shadow: &[u8]) -> Result<(), Stop>
-        ensures { Performs F.Files T.Tables (asked.write_file path.now bytes.now shadow.now) self.old result self.new }
+        ensures { (d : Marked) → AreWritten bytes.now shadow.now d → Performs F.Files T.Tables (asked.write_file path.now d) self.old result self.new }
     {
         write_file(
             &self.machine,

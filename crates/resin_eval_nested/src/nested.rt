@@ -1,11 +1,13 @@
-//! What nests in an evaluation: expressions and statements, through a function value that evaluates them.
+//! What nests in an evaluation: expressions, statements and source texts, through a function value that evaluates them.
 //!
 //! A part of an evaluation doesn't call the evaluator itself, but is given it: so each part is proved on its own, by what the function value is required
 //! to do, and only the evaluator, which gives itself, recurs. It takes one evaluation off the room that is left each time.
 ghost use Rattle.resin_step_objects.specs.Under.meaning_forms.Forms as form;
 ghost use Rattle.resin_eval_nested.specs.Nested.{Nests, means};
 ghost use Rattle.resin_eval_nested.specs.Running.{Performs};
-ghost use Rattle.std.specs.Prelude.{OnOk, ◌<◌};
+ghost use Rattle.resin_step_objects.specs.Under.lstr.Texts.{LONGEST};
+ghost use Rattle.resin_step_objects.specs.Under.meaning_forms.Sources.{source};
+ghost use Rattle.std.specs.Prelude.{OnOk, ◌<◌, ◌≤◌, length};
 
 use crate::run::Run;
 use resin_step_objects::under::base::{Files, Tables};
@@ -25,6 +27,8 @@ pub enum Nested<'e> {
     Asked(&'e Expr),
     /// A statement, at its own line.
     Statement(&'e Stmt),
+    /// A source text, of at most 16,777,216 bytes, that runs in the variables of the running call.
+    Source(&'e [u8]),
 }
 
 /// How it ends, if nothing stops it.
@@ -32,7 +36,7 @@ pub enum Nested<'e> {
 pub enum Outcome {
     /// The value of an expression.
     Value(Value),
-    /// How a statement goes on.
+    /// How a statement goes on, or a source text ends.
     Course(Course),
 }
 
@@ -81,6 +85,18 @@ impl<
         ensures spent { OnOk result (run.new.machine.ticks < run.old.machine.ticks) }
     {
         match (self.nested)(self.alloc, self.room, Nested::Statement(s), run)? {
+            Outcome::Course(end) => Ok(end),
+            Outcome::Value(_) => unreachable!(),
+        }
+    }
+
+    /// A source text, in the variables of the running call: its program is read, its functions and classes are declared, then its statements run.
+    pub fn source(&self, run: &mut Run<F, T>, src: &[u8]) -> Result<Course, Stop>
+        requires nests { Nests F.Files T.Tables N.pre N.post self.now }
+        requires short { length src.now ≤ LONGEST }
+        ensures { Performs F.Files T.Tables (source (means self.now) src.now) run.old result run.new }
+    {
+        match (self.nested)(self.alloc, self.room, Nested::Source(src), run)? {
             Outcome::Course(end) => Ok(end),
             Outcome::Value(_) => unreachable!(),
         }

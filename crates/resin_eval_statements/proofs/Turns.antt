@@ -1,7 +1,7 @@
 -- Turns of loops.
 use Rattle.std.proofs.Common.{◌≡◌, ℕ, zero, suc, ◌+◌, ◌-◌, ◌<◌, List, [], ◌∷◌, length, drop, slice_get, IfSome, IsErrAnd, Option, Some, None, Result, Ok, Err, refl, sym, ap, ◌∙◌, subst, arith}
 use Rattle.std.proofs.lemmas.Result.{err_from_is_err_and}
-use Rattle.resin_eval_writes.specs.Under.base.FileStore.{FileStore}
+use Rattle.resin_eval_writes.specs.Under.store.Files.{LabelledFiles}
 use Rattle.resin_eval_writes.specs.Under.base.TableStore.{TableStore}
 use Rattle.resin_eval_writes.specs.Under.base.declared.calls.Calls.{Calls}
 use Rattle.resin_eval_writes.specs.Under.scalar.declared.faults.ScriptFault.TheVariants.{BadOperand}
@@ -86,5 +86,5 @@ foreach_other ev kx x body (Text t) ne = refl
 foreach_other ev kx x body (Arr a) ne = absurd (ne a refl)
 foreach_other ev kx x body (Obj o) ne = refl
 
-pub does_foreach_other : (ev : Evals) (kx : Option (List ℕ)) (x : List ℕ) (body : Stmt) (v : Value) (m : State) {f : Seen FileStore} {t : Seen TableStore} {c : Calls} {s : Stop} → ((a : Array) → v ≡ Arr a → ⊥) → s ≡ Fault BadOperand m.line → Does (foreach ev kx x body v) (world m f t c) (Err s) (world m f t c)
+pub does_foreach_other : (ev : Evals) (kx : Option (List ℕ)) (x : List ℕ) (body : Stmt) (v : Value) (m : State) {f : Seen LabelledFiles} {t : Seen TableStore} {c : Calls} {s : Stop} → ((a : Array) → v ≡ Arr a → ⊥) → s ≡ Fault BadOperand m.line → Does (foreach ev kx x body v) (world m f t c) (Err s) (world m f t c)
 does_foreach_other ev kx x body v m ne e = rw (foreach_other ev kx x body v ne) (does_faulted BadOperand m e)

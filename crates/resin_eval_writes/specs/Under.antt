@@ -15,6 +15,7 @@ pub use Rattle.resin_eval_nested.specs.Under.scope
 pub use Rattle.resin_eval_nested.specs.Under.stage
 pub use Rattle.resin_eval_nested.specs.Under.step_objects
 pub use Rattle.resin_eval_nested.specs.Under.step_parts
+pub use Rattle.resin_eval_nested.specs.Under.store
 pub use Rattle.resin_eval_nested.specs.Under.target
 pub use Rattle.resin_eval_nested.specs.Under.tree
 pub use Rattle.resin_eval_nested.specs.Under.value

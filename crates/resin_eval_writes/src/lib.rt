@@ -6,5 +6,6 @@
 
 pub mod headers;
 pub mod leaving;
+pub mod reading;
 pub mod under;
 pub mod writes;

@@ -7,5 +7,5 @@ pub mod eval_nested {
 
 pub use resin_eval_nested::under::{
     base, bytes, heap, items, journal, label, lstr, machine, meaning_forms, ops, scalar,
-    step_objects, step_parts, target, tree, value,
+    step_objects, step_parts, store, target, tree, value,
 };

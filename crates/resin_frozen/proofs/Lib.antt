@@ -6,3 +6,4 @@ pub mod Back
 pub mod One_text
 pub mod Loops
 pub mod Turns
+pub mod Told

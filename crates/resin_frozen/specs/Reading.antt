@@ -1,5 +1,6 @@
 -- Reading a policy text from the front of bytes.
 use Rattle.std.specs.Prelude.{ℕ, zero, suc, ◌-◌, ◌^◌, min, Bool, true, false, ◌&&◌, nat_lt, nat_le, nat_eq, ℤ, pos, neg_ℤ, List, length, take, drop, codes, decimal, Option, Some, None, is_none, if◌then◌else◌}
+use Rattle.std.specs.Option.{option_map}
 use Rattle.std.specs.Fmt.{signed_decimal}
 use Rattle.std.specs.List.{position_or_len, before_first, after_first, starts_with}
 use Rattle.std.specs.Cmp.Lexicographic.{pointwise}
@@ -146,6 +147,19 @@ unfoldable pub policy : Read Policy
 policy xs =
     and_then (literal (codes "O:") xs) (λ o. and_then (class o.1) (λ c. and_then (literal (codes ":") c.1) (λ d.
     and_then (braced (value ROOM) Names d.1) (λ a. Some ((c.0, a.0.entries), a.1)))))
+
+-- the class of the policy whose text stands at the front, and its fields as an array by their names
+abbrev pub Said : Type 0
+Said = List ℕ × Array
+
+unfoldable pub class_and_fields : Read Said
+class_and_fields xs =
+    and_then (literal (codes "O:") xs) (λ o. and_then (class o.1) (λ c. and_then (literal (codes ":") c.1) (λ d.
+    and_then (braced (value ROOM) Names d.1) (λ a. Some ((c.0, a.0), a.1)))))
+
+-- what a policy text says: the class of a policy, and its fields as an array by their names
+abbrev pub said : List ℕ → Option Said
+said xs = option_map (λ r. r.0) (class_and_fields xs)
 
 -- the policy text at the front
 unfoldable pub front : Read (List ℕ)

@@ -7,7 +7,7 @@ use Rattle.resin_value.specs.Arrays.{Array}
 use Rattle.resin_value.specs.Seen.{tree_of}
 use Rattle.resin_value.specs.Values.{FieldList}
 use Rattle.resin_frozen.specs.Policies.{Says}
-use Rattle.resin_frozen.specs.Reading.{Policy}
+use Rattle.resin_frozen.specs.Reading.{Policy, Said, said}
 use Rattle.resin_frozen.specs.declared.stop.Stop.{Stop}
 use Rattle.resin_frozen.specs.declared.stop.Stop.TheVariants as s
 use Rattle.resin_frozen.specs.declared.fault.FreezeFault.{FreezeFault}
@@ -48,6 +48,18 @@ abbrev pub ReadsPolicy : Option (Policy × List ℕ) → Result (Bor (List ℕ) 
 ReadsPolicy out (Ok p) new = out ≡ Some ((p.0.now, p.1.entries), new)
 ReadsPolicy out (Err s.Form) new = out ≡ None
 ReadsPolicy out (Err s.Memory) new = Unit {0}
+
+-- the same with the fields as an array
+abbrev pub ReadsFields : Option (Said × List ℕ) → Result (Bor (List ℕ) × Array) Stop → List ℕ → Type 0
+ReadsFields out (Ok p) new = out ≡ Some ((p.0.now, p.1), new)
+ReadsFields out (Err s.Form) new = out ≡ None
+ReadsFields out (Err s.Memory) new = Unit {0}
+
+-- the class that the text says and the array of its fields, unless memory runs out
+abbrev pub Tells : List ℕ → Result (List ℕ × Array) Stop → Type 0
+Tells text (Ok p) = said text ≡ Some p
+Tells text (Err s.Form) = ⊥
+Tells text (Err s.Memory) = Unit {0}
 
 -- the policy text, or that there is none
 abbrev pub Freezes : Option (List ℕ) → Result (List ℕ) FreezeFault → Type 0

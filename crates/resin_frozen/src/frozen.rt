@@ -1,5 +1,5 @@
 //! Policy texts.
-ghost use Rattle.std.specs.Prelude.{◌≡◌, true, nat_eq, IfOk};
+ghost use Rattle.std.specs.Prelude.{◌≡◌, true, nat_eq, IfOk, Some};
 ghost use Rattle.std.specs.Hash as fed;
 ghost use Rattle.std.specs.Cmp.{partial_equiv_from_equiv};
 ghost use Rattle.std.specs.Cmp.Lexicographic.{pointwise, nat_list_eq_equiv};
@@ -8,8 +8,8 @@ ghost use Rattle.std.proofs.Common.{rules};
 ghost use Rattle.std.specs.List.{list_all};
 ghost use Rattle.resin_value.specs.declared.key.Key.TheVariants.{Text};
 ghost use Rattle.resin_frozen.specs.Policies.{IsPolicyText, is_field_key, pairs_of, Says};
-ghost use Rattle.resin_frozen.specs.Reads.{Reads, Thaws};
-ghost use Rattle.resin_frozen.specs.Reading.{front};
+ghost use Rattle.resin_frozen.specs.Reads.{Reads, Thaws, Tells};
+ghost use Rattle.resin_frozen.specs.Reading.{front, said};
 
 use crate::policy::read_policy;
 use crate::rest::Rest;
@@ -147,4 +147,26 @@ fn name_of(alloc: Global, key: &Key) -> Result<Bytes, AllocError>
         Key::Text(text) => Bytes::from_slice(alloc, text.as_slice()),
         Key::Int(_) => unreachable!(),
     }
+}
+
+/// The class of the policy whose text this is, and its fields as an array by their names. No value carries a label, and an array's next key is one more than
+/// its largest integer key.
+pub fn said(alloc: Global, f: &Frozen) -> Result<(Bytes, Arr), AllocError>
+    ensures { IfOk result (λ r. said f.now ≡ Some (r.0, r.1)) }
+{
+    match told(alloc, f) {
+        Ok(parts) => Ok(parts),
+        Err(Stop::Memory) => Err(AllocError),
+        Err(Stop::Form) => unreachable!(),
+    }
+}
+
+// The same, by reading the text, which is a policy text.
+fn told(alloc: Global, f: &Frozen) -> Result<(Bytes, Arr), Stop>
+    ensures { Tells f.now result }
+{
+    let mut rest = Rest::new(f.as_slice());
+    let (class, fields) = read_policy(alloc, &mut rest)?;
+    let owned = Bytes::from_slice(alloc, class)?;
+    Ok((owned, fields))
 }

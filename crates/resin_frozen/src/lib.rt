@@ -13,7 +13,7 @@ mod values;
 
 pub use fault::FreezeFault;
 pub use freezing::freeze;
-pub use frozen::{Frozen, thaw};
+pub use frozen::{Frozen, said, thaw};
 pub use keys::{are_fields, is_class};
 pub use laws::policy_laws;
 pub use rest::{Rest, number};

@@ -1,7 +1,7 @@
 //! Reading policy texts.
 ghost use Rattle.std.specs.Prelude.{◌≡◌};
 ghost use Rattle.resin_frozen.specs.Reading as spec;
-ghost use Rattle.resin_frozen.specs.Reads.{Lends, ReadsPolicy};
+ghost use Rattle.resin_frozen.specs.Reads.{Lends, ReadsPolicy, ReadsFields};
 
 use crate::keys::{Keys, is_class};
 use crate::rest::Rest;
@@ -24,9 +24,10 @@ fn read_class<'a>(rest: &mut Rest<'a>) -> Result<&'a [u8], Stop>
 }
 
 /// The class and the pairs of the fields of the policy whose text stands in front.
-#[tactic(auto, unfolding(crate::specs::Reading::policy))]
+#[tactic(auto, unfolding(crate::specs::Reading::policy, crate::specs::Reading::class_and_fields))]
 pub(crate) fn read_policy<'a>(alloc: Global, rest: &mut Rest<'a>) -> Result<(&'a [u8], Arr), Stop>
-    ensures { ReadsPolicy (spec.policy rest.old) result rest.new }
+    ensures policy { ReadsPolicy (spec.policy rest.old) result rest.new }
+    ensures fields { ReadsFields (spec.class_and_fields rest.old) result rest.new }
 {
     rest.literal(b"O:")?;
     let class = read_class(rest)?;

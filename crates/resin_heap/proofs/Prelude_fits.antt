@@ -7,7 +7,7 @@ use Rattle.resin_scan.specs.Bytes.{is_name_byte}
 use Rattle.resin_scan.specs.Lists.{Every}
 use Rattle.resin_scan.specs.Words.{IsName}
 use Rattle.resin_heap.specs.declared.prelude.PreludeClass.{PreludeClass}
-use Rattle.resin_heap.specs.declared.prelude.PreludeClass.TheVariants.{Throwable, Exception, Error, ArithmeticError, TypeError, ValueError, DivisionByZeroError, ArgumentCountError, PolicyException, SqlException, Policy, NoExport, Filter}
+use Rattle.resin_heap.specs.declared.prelude.PreludeClass.TheVariants.{Throwable, Exception, Error, ArithmeticError, TypeError, ValueError, DivisionByZeroError, ArgumentCountError, PolicyException, SqlException, Policy, NoExport, Filter, LostPolicy}
 use Rattle.resin_heap.specs.Classes.{find_class, parent_in}
 use Rattle.resin_heap.specs.Prelude.{all_classes, number_of, name_of, parent_class, methods_of_class, function_of, declaration_of, prelude}
 
@@ -34,7 +34,8 @@ prelude_fits (suc (suc (suc (suc (suc (suc (suc (suc (suc zero))))))))) c e = sa
 prelude_fits (suc (suc (suc (suc (suc (suc (suc (suc (suc (suc zero)))))))))) c e = same (suc (suc (suc (suc (suc (suc (suc (suc (suc (suc zero)))))))))) Policy c (record { fresh = refl; under = refl; next = refl }) e
 prelude_fits (suc (suc (suc (suc (suc (suc (suc (suc (suc (suc (suc zero))))))))))) c e = same (suc (suc (suc (suc (suc (suc (suc (suc (suc (suc (suc zero))))))))))) NoExport c (record { fresh = refl; under = refl; next = refl }) e
 prelude_fits (suc (suc (suc (suc (suc (suc (suc (suc (suc (suc (suc (suc zero)))))))))))) c e = same (suc (suc (suc (suc (suc (suc (suc (suc (suc (suc (suc (suc zero)))))))))))) Filter c (record { fresh = refl; under = refl; next = refl }) e
-prelude_fits (suc (suc (suc (suc (suc (suc (suc (suc (suc (suc (suc (suc (suc i))))))))))))) c e = cc
+prelude_fits (suc (suc (suc (suc (suc (suc (suc (suc (suc (suc (suc (suc (suc zero))))))))))))) c e = same (suc (suc (suc (suc (suc (suc (suc (suc (suc (suc (suc (suc (suc zero))))))))))))) LostPolicy c (record { fresh = refl; under = refl; next = refl }) e
+prelude_fits (suc (suc (suc (suc (suc (suc (suc (suc (suc (suc (suc (suc (suc (suc i)))))))))))))) c e = cc
 
 -- each class of the runtime has few methods
 pub few_methods : (c : PreludeClass) → length (map function_of (methods_of_class c)) < 4294967295
@@ -51,6 +52,7 @@ few_methods SqlException = lit< tt
 few_methods Policy = lit< tt
 few_methods NoExport = lit< tt
 few_methods Filter = lit< tt
+few_methods LostPolicy = lit< tt
 
 -- each class of the runtime has a name
 first_true : (a b : Bool) → (a && b) ≡ true → a ≡ true
@@ -79,3 +81,4 @@ is_named SqlException = (refl, every_byte (codes "qlException") refl)
 is_named Policy = (refl, every_byte (codes "olicy") refl)
 is_named NoExport = (refl, every_byte (codes "oExport") refl)
 is_named Filter = (refl, every_byte (codes "ilter") refl)
+is_named LostPolicy = (refl, every_byte (codes "ostPolicy") refl)

@@ -10,7 +10,7 @@ use Rattle.resin_tree.specs.declared.declaration.Constant.{Constant}
 use Rattle.resin_tree.specs.declared.declaration.Constant.TheVariants as constant
 use Rattle.resin_tree.specs.declared.expression.Literal.TheVariants as literal
 use Rattle.resin_heap.specs.declared.prelude.PreludeClass.{PreludeClass}
-use Rattle.resin_heap.specs.declared.prelude.PreludeClass.TheVariants.{Throwable, Exception, Error, ArithmeticError, TypeError, ValueError, DivisionByZeroError, ArgumentCountError, PolicyException, SqlException, Policy, NoExport, Filter}
+use Rattle.resin_heap.specs.declared.prelude.PreludeClass.TheVariants.{Throwable, Exception, Error, ArithmeticError, TypeError, ValueError, DivisionByZeroError, ArgumentCountError, PolicyException, SqlException, Policy, NoExport, Filter, LostPolicy}
 use Rattle.resin_heap.specs.declared.prelude.PreludeMethod.{PreludeMethod}
 use Rattle.resin_heap.specs.declared.prelude.PreludeMethod.TheVariants.{Construct, GetMessage, GetCode, Allow, MergeToItself, Refuse, FilterRead, FilterWrite, FilterFunction}
 use Rattle.resin_heap.specs.declared.classes.MethodAt.{MethodAt}
@@ -18,7 +18,7 @@ use Rattle.resin_heap.specs.Classes.{Table}
 
 abbrev pub all_classes : List PreludeClass
 all_classes =
-    Throwable ∷ Exception ∷ Error ∷ ArithmeticError ∷ TypeError ∷ ValueError ∷ DivisionByZeroError ∷ ArgumentCountError ∷ PolicyException ∷ SqlException ∷ Policy ∷ NoExport ∷ Filter ∷ []
+    Throwable ∷ Exception ∷ Error ∷ ArithmeticError ∷ TypeError ∷ ValueError ∷ DivisionByZeroError ∷ ArgumentCountError ∷ PolicyException ∷ SqlException ∷ Policy ∷ NoExport ∷ Filter ∷ LostPolicy ∷ []
 
 -- the place of a class in that list
 abbrev pub number_of : PreludeClass → ℕ
@@ -35,6 +35,7 @@ number_of SqlException = 9
 number_of Policy = 10
 number_of NoExport = 11
 number_of Filter = 12
+number_of LostPolicy = 13
 
 abbrev pub name_of : PreludeClass → List ℕ
 name_of Throwable = codes "Throwable"
@@ -50,6 +51,7 @@ name_of SqlException = codes "SqlException"
 name_of Policy = codes "Policy"
 name_of NoExport = codes "NoExport"
 name_of Filter = codes "Filter"
+name_of LostPolicy = codes "LostPolicy"
 
 -- the class that a class is under
 abbrev pub parent_class : PreludeClass → Option PreludeClass
@@ -66,12 +68,16 @@ parent_class SqlException = Some Exception
 parent_class Policy = None
 parent_class NoExport = Some Policy
 parent_class Filter = None
+parent_class LostPolicy = Some Policy
 
 abbrev pub text : List ℕ → Constant
 text bytes = constant.Literal (literal.Text bytes)
 
 abbrev pub zero_constant : Constant
 zero_constant = constant.Literal (literal.Int (pos 0))
+
+abbrev pub empty_array : Constant
+empty_array = constant.Array []
 
 abbrev pub parameter_of : List ℕ → Option Constant → Parameter
 parameter_of name default = record { name = name; default = default }
@@ -107,6 +113,7 @@ methods_of_class Exception = Construct ∷ GetMessage ∷ GetCode ∷ []
 methods_of_class Error = Construct ∷ GetMessage ∷ GetCode ∷ []
 methods_of_class Policy = Allow ∷ MergeToItself ∷ []
 methods_of_class NoExport = Refuse ∷ []
+methods_of_class LostPolicy = Refuse ∷ []
 methods_of_class Filter = FilterRead ∷ FilterWrite ∷ FilterFunction ∷ []
 methods_of_class Throwable = []
 methods_of_class ArithmeticError = []
@@ -124,10 +131,15 @@ property_of name default = record { name = name; default = Some default }
 abbrev pub properties_of_exceptions : List Property
 properties_of_exceptions = property_of (codes "message") (text []) ∷ property_of (codes "code") zero_constant ∷ []
 
+-- a lost policy names no class, and has no fields, until it is given those of a policy whose class isn't there
+abbrev pub properties_of_lost : List Property
+properties_of_lost = property_of (codes "of") (text []) ∷ property_of (codes "fields") empty_array ∷ []
+
 -- the properties that a class declares itself
 abbrev pub properties_of_class : PreludeClass → List Property
 properties_of_class Exception = properties_of_exceptions
 properties_of_class Error = properties_of_exceptions
+properties_of_class LostPolicy = properties_of_lost
 properties_of_class Throwable = []
 properties_of_class ArithmeticError = []
 properties_of_class TypeError = []

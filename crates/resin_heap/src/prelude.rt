@@ -2,7 +2,7 @@
 ghost use Rattle.std.specs.Prelude.{◌≡◌, [], ◌∷◌, None, map, slice_get, IfOk};
 ghost use Rattle.std.specs.Option.{option_map};
 ghost use Rattle.resin_scan.specs.Words.{IsName};
-ghost use Rattle.resin_heap.specs.Prelude.{name_of, parent_class, number_of, method_name, methods_of_class, parameters_of, parameter_of, property_of, properties_of_exceptions, text, zero_constant, function_of, properties_of_class, declaration_of, prelude_method_at, all_classes};
+ghost use Rattle.resin_heap.specs.Prelude.{name_of, parent_class, number_of, method_name, methods_of_class, parameters_of, parameter_of, property_of, properties_of_exceptions, properties_of_lost, text, zero_constant, empty_array, function_of, properties_of_class, declaration_of, prelude_method_at, all_classes};
 
 use crate::classes::MethodAt;
 use resin_items::{Items, Shared, SharedBytes};
@@ -30,6 +30,8 @@ pub enum PreludeClass {
     NoExport,
     /// The parent of all filters. It changes nothing.
     Filter,
+    /// A stored policy whose class isn't there: it keeps the name of that class in `of`, and the policy's fields in `fields`. It lets nothing pass.
+    LostPolicy,
 }
 
 /// What a method of a class of the runtime does. The runtime runs it; its tree has no statements.
@@ -45,7 +47,7 @@ pub enum PreludeMethod {
     Allow,
     /// `merge($set)` of `Policy`: answers a list of the object itself.
     MergeToItself,
-    /// `export_check($context)` of `NoExport`: throws a new `PolicyException`.
+    /// `export_check($context)` of `NoExport` and of `LostPolicy`: throws a new `PolicyException`.
     Refuse,
     /// `filter_read($data, $context)`: answers the data.
     FilterRead,
@@ -56,10 +58,10 @@ pub enum PreludeMethod {
 }
 
 /// How many classes the runtime has.
-pub const PRELUDE_LEN: u32 = 13;
+pub const PRELUDE_LEN: u32 = 14;
 
 /// The classes of the runtime, in the order of their numbers.
-pub const PRELUDE: [PreludeClass; 13] = [
+pub const PRELUDE: [PreludeClass; 14] = [
     PreludeClass::Throwable,
     PreludeClass::Exception,
     PreludeClass::Error,
@@ -73,6 +75,7 @@ pub const PRELUDE: [PreludeClass; 13] = [
     PreludeClass::Policy,
     PreludeClass::NoExport,
     PreludeClass::Filter,
+    PreludeClass::LostPolicy,
 ];
 
 impl PreludeClass {
@@ -110,6 +113,7 @@ impl PreludeClass {
             PreludeClass::Policy => "Policy",
             PreludeClass::NoExport => "NoExport",
             PreludeClass::Filter => "Filter",
+            PreludeClass::LostPolicy => "LostPolicy",
         }
     }
 
@@ -127,7 +131,7 @@ impl PreludeClass {
             PreludeClass::PolicyException | PreludeClass::SqlException => {
                 Some(PreludeClass::Exception)
             }
-            PreludeClass::NoExport => Some(PreludeClass::Policy),
+            PreludeClass::NoExport | PreludeClass::LostPolicy => Some(PreludeClass::Policy),
             PreludeClass::Throwable | PreludeClass::Policy | PreludeClass::Filter => None,
         }
     }
@@ -143,7 +147,7 @@ impl PreludeClass {
                 PreludeMethod::GetCode,
             ],
             PreludeClass::Policy => &[PreludeMethod::Allow, PreludeMethod::MergeToItself],
-            PreludeClass::NoExport => &[PreludeMethod::Refuse],
+            PreludeClass::NoExport | PreludeClass::LostPolicy => &[PreludeMethod::Refuse],
             PreludeClass::Filter => &[
                 PreludeMethod::FilterRead,
                 PreludeMethod::FilterWrite,
@@ -153,12 +157,13 @@ impl PreludeClass {
         }
     }
 
-    // The properties that it declares itself: those of an exception.
+    // The properties that it declares itself: those of an exception, and those of a lost policy.
     fn properties(self, alloc: Global) -> Result<Items<Property>, AllocError>
         ensures { IfOk result (λ list. list ≡ properties_of_class self) }
     {
         match self {
             PreludeClass::Exception | PreludeClass::Error => exception_properties(alloc),
+            PreludeClass::LostPolicy => lost_properties(alloc),
             _ => Ok(Items::new(alloc)),
         }
     }
@@ -278,6 +283,13 @@ fn zero() -> Constant
     Constant::Literal(Literal::Int(0))
 }
 
+// The empty array, as a constant.
+fn empty_array(alloc: Global) -> Constant
+    ensures { result ≡ empty_array }
+{
+    Constant::Array(Items::new(alloc))
+}
+
 // A parameter.
 fn parameter(alloc: Global, name: &str, default: Option<Constant>) -> Result<Parameter, AllocError>
     ensures { IfOk result (λ p. p ≡ parameter_of name.now default) }
@@ -335,5 +347,15 @@ fn exception_properties(alloc: Global) -> Result<Items<Property>, AllocError>
     let mut list = Items::new(alloc);
     list.push(property(alloc, "message", empty_text(alloc)?)?)?;
     list.push(property(alloc, "code", zero())?)?;
+    Ok(list)
+}
+
+// The properties of a lost policy.
+fn lost_properties(alloc: Global) -> Result<Items<Property>, AllocError>
+    ensures { IfOk result (λ list. list ≡ properties_of_lost) }
+{
+    let mut list = Items::new(alloc);
+    list.push(property(alloc, "of", empty_text(alloc)?)?)?;
+    list.push(property(alloc, "fields", empty_array(alloc))?)?;
     Ok(list)
 }

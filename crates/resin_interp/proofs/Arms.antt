@@ -2,7 +2,7 @@
 use Rattle.std.proofs.Common.{◌≡◌, ℕ, ◌+◌, ◌≤◌, ◌<◌, Bool, true, false, cond, Result, Ok, Err, inl, refl, arith, IsErrAnd}
 use Rattle.std.specs.Prelude.{OnOk}
 use Rattle.std.proofs.lemmas.Result.{err_from_is_err_and}
-use Rattle.resin_eval_calls.specs.Under.base.FileStore.{FileStore}
+use Rattle.resin_eval_calls.specs.Under.store.Files.{LabelledFiles}
 use Rattle.resin_eval_calls.specs.Under.base.TableStore.{TableStore}
 use Rattle.resin_eval_calls.specs.Under.base.declared.calls.Calls.{Calls}
 use Rattle.resin_eval_calls.specs.Under.scalar.declared.faults.CallStop.{CallStop}

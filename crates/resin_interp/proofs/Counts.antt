@@ -13,7 +13,7 @@ use Rattle.resin_eval_calls.specs.Under.builtin.Signatures.{sig_of}
 use Rattle.resin_tree.specs.declared.declaration.Item.{Item}
 use Rattle.resin_tree.specs.declared.declaration.Item.TheVariants.{Function, Class, Statement}
 use Rattle.resin_tree.specs.declared.statement.Stmt.{Stmt}
-use Rattle.resin_eval_calls.specs.Under.meaning_forms.Programs.{statement_in}
+use Rattle.resin_eval_calls.specs.Under.meaning_forms.Sources.{statement_in}
 
 -- ---- the statements of a file
 

@@ -3,7 +3,7 @@ use Rattle.std.proofs.Common.{◌≡◌, ℕ, ◌<◌, ◌≤◌, List, [], ◌�
 use Rattle.std.specs.Prelude.{◌==◌}
 use Rattle.std.proofs.lemmas.Bool.Decides.{nat_tests}
 use Rattle.std.proofs.lemmas.Result.{err_from_is_err_and}
-use Rattle.resin_eval_calls.specs.Under.base.FileStore.{FileStore}
+use Rattle.resin_eval_calls.specs.Under.store.Files.{LabelledFiles}
 use Rattle.resin_eval_calls.specs.Under.base.TableStore.{TableStore}
 use Rattle.resin_eval_calls.specs.Under.base.declared.calls.Calls.{Calls}
 use Rattle.resin_eval_calls.specs.Under.label.Sets.{NumberSet, empty as no_labels}
@@ -24,7 +24,7 @@ use Rattle.resin_eval_calls.specs.Under.meaning_forms.Merges.{fold_on, fold_sets
 use Rattle.resin_eval_calls.specs.Under.meaning_forms.Functions.{format_arguments}
 use Rattle.resin_eval_calls.specs.Under.meaning_forms.Channels.{unbuilt}
 use Rattle.resin_eval_calls.specs.Under.scalar.declared.faults.ScriptFault.TheVariants.{UndefinedFunction}
-use Rattle.resin_eval_calls.specs.Under.meaning_forms.Programs.{file, flow_of, program_end}
+use Rattle.resin_eval_calls.specs.Under.meaning_forms.Programs.{flow_of, program_end}
 use Rattle.resin_eval_calls.specs.Under.meaning_forms.declared.course.Course.{Course}
 use Rattle.resin_eval_calls.specs.Under.meaning_forms.declared.course.Flow.{Flow}
 use Rattle.resin_eval_calls.specs.Under.meaning_forms.declared.course.Flow.TheVariants.{Exit as Exited}

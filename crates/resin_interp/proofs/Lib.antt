@@ -1,7 +1,10 @@
 pub mod Arms
+pub mod Buffered
 pub mod Cases
 pub mod Counts
 pub mod Exits
+pub mod InputLemmas
+pub mod Places
 pub mod Rooms
 pub mod Shapes
 -- Passed on to the crates above, which list this one alone.

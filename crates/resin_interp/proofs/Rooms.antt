@@ -1,8 +1,8 @@
 -- An evaluation by the room that is left.
-use Rattle.std.proofs.Common.{◌≡◌, ◌≢◌, ℕ, suc, ◌-◌, ◌<◌, Result, Ok, Err, refl, sym, ◌∙◌, subst, arith, Bor, IsErrAnd}
+use Rattle.std.proofs.Common.{◌≡◌, ◌≢◌, ℕ, suc, ◌-◌, ◌<◌, ◌≤◌, List, length, Result, Ok, Err, refl, sym, ◌∙◌, subst, arith, Bor, IsErrAnd}
 use Rattle.std.proofs.lemmas.Result.{err_from_is_err_and}
 use Rattle.std.specs.Prelude.{OnOk}
-use Rattle.resin_eval_calls.specs.Under.base.FileStore.{FileStore}
+use Rattle.resin_eval_calls.specs.Under.store.Files.{LabelledFiles}
 use Rattle.resin_eval_calls.specs.Under.base.TableStore.{TableStore}
 use Rattle.resin_eval_calls.specs.Under.base.declared.calls.Calls.{Calls}
 use Rattle.resin_eval_calls.specs.Under.scalar.declared.faults.ScriptFault.TheVariants.{DepthSpent}
@@ -28,26 +28,29 @@ use Rattle.resin_eval_calls.specs.Under.meaning_forms.declared.course.Course.{Co
 use Rattle.resin_eval_calls.specs.Under.meaning_forms.Parts.{Evals, ◌>>◌}
 use Rattle.resin_eval_calls.specs.Under.meaning_forms.Expressions.{expr_form, soft_form}
 use Rattle.resin_eval_calls.specs.Under.meaning_forms.Programs.{evals, ticked_form}
+use Rattle.resin_eval_calls.specs.Under.meaning_forms.Sources.{source}
+use Rattle.resin_eval_calls.specs.Under.lstr.Texts.{LONGEST}
 use Rattle.resin_eval_calls.specs.Under.eval_nested.Nested.{Ends}
 use Rattle.resin_eval_calls.specs.Under.eval_nested.declared.nested.Nested.{Nested}
-use Rattle.resin_eval_calls.specs.Under.eval_nested.declared.nested.Nested.TheVariants.{Value as ForValue, Asked, Statement}
+use Rattle.resin_eval_calls.specs.Under.eval_nested.declared.nested.Nested.TheVariants.{Value as ForValue, Asked, Statement, Source}
 use Rattle.resin_eval_calls.specs.Under.eval_nested.declared.nested.Outcome.{Outcome}
 use Rattle.resin_eval_calls.proofs.eval_nested_lemmas.Arms.{does_faulted}
 
-shut_expr : (room : ℕ) (e : Expr) (m : State) {f : Seen FileStore} {t : Seen TableStore} {c : Calls} {s : Stop} → room ≡ 0 → s ≡ Fault DepthSpent m.line → Does ((evals room).expr e) (world m f t c) (Err s) (world m f t c)
+shut_expr : (room : ℕ) (e : Expr) (m : State) {f : Seen LabelledFiles} {t : Seen TableStore} {c : Calls} {s : Stop} → room ≡ 0 → s ≡ Fault DepthSpent m.line → Does ((evals room).expr e) (world m f t c) (Err s) (world m f t c)
 shut_expr room e m h k = rw h (unfold evals in does_faulted DepthSpent m k)
 
-shut_soft : (room : ℕ) (e : Expr) (m : State) {f : Seen FileStore} {t : Seen TableStore} {c : Calls} {s : Stop} → room ≡ 0 → s ≡ Fault DepthSpent m.line → Does ((evals room).soft e) (world m f t c) (Err s) (world m f t c)
+shut_soft : (room : ℕ) (e : Expr) (m : State) {f : Seen LabelledFiles} {t : Seen TableStore} {c : Calls} {s : Stop} → room ≡ 0 → s ≡ Fault DepthSpent m.line → Does ((evals room).soft e) (world m f t c) (Err s) (world m f t c)
 shut_soft room e m h k = rw h (unfold evals in does_faulted DepthSpent m k)
 
-shut_stmt : (room : ℕ) (s : Stmt) (m : State) {f : Seen FileStore} {t : Seen TableStore} {c : Calls} {e : Stop} → room ≡ 0 → e ≡ Fault DepthSpent m.line → Does ((evals room).stmt s) (world m f t c) (Err e) (world m f t c)
+shut_stmt : (room : ℕ) (s : Stmt) (m : State) {f : Seen LabelledFiles} {t : Seen TableStore} {c : Calls} {e : Stop} → room ≡ 0 → e ≡ Fault DepthSpent m.line → Does ((evals room).stmt s) (world m f t c) (Err e) (world m f t c)
 shut_stmt room s m h k = rw h (unfold evals in does_faulted DepthSpent m k)
 
 -- no further evaluation may be open
-pub shut : (room : ℕ) (n : Nested) (m : State) (f : Seen FileStore) (t : Seen TableStore) (c : Calls) {s : Stop} → room ≡ 0 → s ≡ Fault DepthSpent m.line → Ends room n (world m f t c) (Err s) (world m f t c)
-shut room (ForValue e) m f t c h k = shut_expr room e.now m h k
-shut room (Asked e) m f t c h k = shut_soft room e.now m h k
-shut room (Statement s) m f t c h k = shut_stmt room s.now m h k
+pub shut : (room : ℕ) (n : Nested) (m : State) (f : Seen LabelledFiles) (t : Seen TableStore) (c : Calls) {s : Stop} → ((src : Bor (List ℕ)) → n ≡ Source src → ⊥) → room ≡ 0 → s ≡ Fault DepthSpent m.line → Ends room n (world m f t c) (Err s) (world m f t c)
+shut room (ForValue e) m f t c ne h k = shut_expr room e.now m h k
+shut room (Asked e) m f t c ne h k = shut_soft room e.now m h k
+shut room (Statement s) m f t c ne h k = shut_stmt room s.now m h k
+shut room (Source s) m f t c ne h k = absurd (ne s refl)
 
 -- what nests is stopped
 pub value_stopped : (room : ℕ) (e : Bor Expr) {u w : World} {s : Stop} (r : Result Outcome Stop) → IsErrAnd r (λ x. x ≡ s) → Does ((evals room).expr e.now) u (Err s) w → Ends room (ForValue e) u r w
@@ -58,6 +61,18 @@ asked_stopped room e r h d = let k = err_from_is_err_and r h in rw (k.1, k.2) d
 
 pub statement_stopped : (room : ℕ) (e : Bor Stmt) {u w : World} {s : Stop} (r : Result Outcome Stop) → IsErrAnd r (λ x. x ≡ s) → Does ((evals room).stmt e.now) u (Err s) w → Ends room (Statement e) u r w
 statement_stopped room e r h d = let k = err_from_is_err_and r h in rw (k.1, k.2) d
+
+-- a source text is stopped
+pub source_stopped : (room : ℕ) (src : Bor (List ℕ)) {u w : World} {s : Stop} (r : Result Outcome Stop) → IsErrAnd r (λ x. x ≡ s) → (length src.now ≤ LONGEST → Does (source (evals room) src.now) u (Err s) w)
+    → Ends room (Source src) u r w
+source_stopped room src r h d = let k = err_from_is_err_and r h in rw (k.1, k.2) d
+
+-- what comes before what where as many evaluations may be open: a source text, its file, its statements, one of them
+pub rank : Nested → ℕ
+rank (ForValue e) = 0
+rank (Asked e) = 0
+rank (Statement s) = 0
+rank (Source src) = 4
 
 -- one more may be open
 pub open_expr : (room : ℕ) (e : Expr) {u v : World} {r : Result Value Stop} → room ≢ 0 → Does ((evals (suc (room - 1))).expr e) u r v → Does ((evals room).expr e) u r v

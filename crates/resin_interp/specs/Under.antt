@@ -7,5 +7,6 @@ pub use Rattle.resin_eval_calls.specs.Under.meaning
 pub use Rattle.resin_eval_calls.specs.Under.meaning_forms
 pub use Rattle.resin_eval_calls.specs.Under.scope
 pub use Rattle.resin_eval_calls.specs.Under.stage
+pub use Rattle.resin_eval_calls.specs.Under.store
 pub use Rattle.resin_eval_calls.specs.Under.target
 pub use Rattle.resin_eval_calls.specs.Under.tree

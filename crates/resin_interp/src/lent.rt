@@ -1,16 +1,23 @@
 //! Runs and calls for whoever has a machine, keepers and calls of their own: they are lent to a run, and are back in their places behind the call.
-ghost use Rattle.resin_eval_calls.specs.Under.meaning_forms.Programs.{function_call, program};
+ghost use Rattle.resin_eval_calls.specs.Under.journal.Channels.{is_leaving};
+ghost use Rattle.resin_eval_calls.specs.Under.machine.Steps.{Acts, charge_bytes as charge_of};
+ghost use Rattle.resin_eval_calls.specs.Under.meaning_forms.Inputs.{set_inputs as inputs_set};
+ghost use Rattle.resin_eval_calls.specs.Under.meaning_forms.Programs.{evals, function_call, most_open, program};
 ghost use Rattle.resin_interp.specs.Lent.{lent};
-ghost use Rattle.resin_eval_calls.specs.Under.meaning.Runs.{Does, seen, world};
+ghost use Rattle.resin_interp.specs.Pages.{end_buffers as buffers_ended, read_named, write_page as page_written};
+ghost use Rattle.resin_eval_calls.specs.Under.meaning.Runs.{Does, files_seen, seen, world};
 ghost use Rattle.std.specs.Fn.{FnOnceReturnsAtMut};
-ghost use Rattle.std.specs.Prelude.{◌≡◌};
+ghost use Rattle.std.specs.Prelude.{false, ◌≡◌};
 
 use crate::top::{perform, perform_call};
+use crate::{inputs, pages};
 use resin_eval_calls::under::base::{Calls, Files, Tables};
 use resin_eval_calls::under::eval_nested::run::Run;
+use resin_eval_calls::under::journal::Channel;
+use resin_eval_calls::under::lstr::LText;
 use resin_eval_calls::under::machine::{Machine, Stop};
 use resin_eval_calls::under::meaning_forms::Flow;
-use resin_eval_calls::under::value::{Value, Values};
+use resin_eval_calls::under::value::{Arr, Value, Values};
 use resin_lend::lend_four;
 use resin_tree::Program;
 use std::alloc::Global;
@@ -69,7 +76,7 @@ pub fn run_program<F: Files, T: Tables>(
     tables: &mut T,
     calls: &mut Calls,
 ) -> Result<Flow, Stop>
-    ensures { Does (program p.now) (world m.old (seen (F.stored files.old) (F.faults files.old) (F.answers files.old)) (seen (T.stored tables.old) (T.faults tables.old) (T.answers tables.old)) calls.old) result (world m.new (seen (F.stored files.new) (F.faults files.new) (F.answers files.new)) (seen (T.stored tables.new) (T.faults tables.new) (T.answers tables.new)) calls.new) }
+    ensures { Does (program p.now) (world m.old (files_seen (F.stored files.old) (F.faults files.old) (F.answers files.old)) (seen (T.stored tables.old) (T.faults tables.old) (T.answers tables.old)) calls.old) result (world m.new (files_seen (F.stored files.new) (F.faults files.new) (F.answers files.new)) (seen (T.stored tables.new) (T.faults tables.new) (T.answers tables.new)) calls.new) }
 {
     with_run(m, files, tables, calls, |run| perform(alloc, run, p))
 }
@@ -85,7 +92,7 @@ pub fn call_function<F: Files, T: Tables>(
     tables: &mut T,
     calls: &mut Calls,
 ) -> Result<Value, Stop>
-    ensures { Does (function_call name.now args.now) (world m.old (seen (F.stored files.old) (F.faults files.old) (F.answers files.old)) (seen (T.stored tables.old) (T.faults tables.old) (T.answers tables.old)) calls.old) result (world m.new (seen (F.stored files.new) (F.faults files.new) (F.answers files.new)) (seen (T.stored tables.new) (T.faults tables.new) (T.answers tables.new)) calls.new) }
+    ensures { Does (function_call name.now args.now) (world m.old (files_seen (F.stored files.old) (F.faults files.old) (F.answers files.old)) (seen (T.stored tables.old) (T.faults tables.old) (T.answers tables.old)) calls.old) result (world m.new (files_seen (F.stored files.new) (F.faults files.new) (F.answers files.new)) (seen (T.stored tables.new) (T.faults tables.new) (T.answers tables.new)) calls.new) }
 {
     with_run(
         m,
@@ -94,4 +101,98 @@ pub fn call_function<F: Files, T: Tables>(
         calls,
         |run| perform_call(alloc, run, name, args),
     )
+}
+
+/// A text that was read at a path passes the filters of a channel by which nothing leaves, as `file` and `code`. The path of a source text counts as imported then. It stops
+/// as `run_program` does.
+pub fn read_through<F: Files, T: Tables>(
+    alloc: Global,
+    m: &mut Machine,
+    channel: Channel,
+    path: &[u8],
+    text: &LText,
+    files: &mut F,
+    tables: &mut T,
+    calls: &mut Calls,
+) -> Result<LText, Stop>
+    requires { is_leaving channel ≡ false }
+    ensures { Does (read_named channel path.now text.now) (world m.old (files_seen (F.stored files.old) (F.faults files.old) (F.answers files.old)) (seen (T.stored tables.old) (T.faults tables.old) (T.answers tables.old)) calls.old) result (world m.new (files_seen (F.stored files.new) (F.faults files.new) (F.answers files.new)) (seen (T.stored tables.new) (T.faults tables.new) (T.answers tables.new)) calls.new) }
+{
+    with_run(
+        m,
+        files,
+        tables,
+        calls,
+        |run| pages::read_through(alloc, run, channel, path, text),
+    )
+}
+
+/// A text leaves as one write on `http`, open buffers or not. It stops as `run_program` does.
+pub fn write_page<F: Files, T: Tables>(
+    alloc: Global,
+    m: &mut Machine,
+    text: &LText,
+    files: &mut F,
+    tables: &mut T,
+    calls: &mut Calls,
+) -> Result<(), Stop>
+    ensures { Does (page_written text.now) (world m.old (files_seen (F.stored files.old) (F.faults files.old) (F.answers files.old)) (seen (T.stored tables.old) (T.faults tables.old) (T.answers tables.old)) calls.old) result (world m.new (files_seen (F.stored files.new) (F.faults files.new) (F.answers files.new)) (seen (T.stored tables.new) (T.faults tables.new) (T.answers tables.new)) calls.new) }
+{
+    with_run(
+        m,
+        files,
+        tables,
+        calls,
+        |run| pages::write_page(alloc, run, text),
+    )
+}
+
+/// The values of these arrays pass the filters of inputs, then `$_GET`, `$_POST`, `$_COOKIE` and `$_SERVER` are set. It stops as `run_program` does.
+pub fn set_inputs<F: Files, T: Tables>(
+    alloc: Global,
+    m: &mut Machine,
+    get: &Arr,
+    post: &Arr,
+    cookie: &Arr,
+    server: &Arr,
+    files: &mut F,
+    tables: &mut T,
+    calls: &mut Calls,
+) -> Result<(), Stop>
+    ensures { Does (inputs_set (evals most_open) get.now post.now cookie.now server.now) (world m.old (files_seen (F.stored files.old) (F.faults files.old) (F.answers files.old)) (seen (T.stored tables.old) (T.faults tables.old) (T.answers tables.old)) calls.old) result (world m.new (files_seen (F.stored files.new) (F.faults files.new) (F.answers files.new)) (seen (T.stored tables.new) (T.faults tables.new) (T.answers tables.new)) calls.new) }
+{
+    with_run(
+        m,
+        files,
+        tables,
+        calls,
+        |run| inputs::set_inputs(alloc, run, get, post, cookie, server),
+    )
+}
+
+/// The open output buffers are closed, and what they hold leaves as one write on `http`, where any is open. `TextTooLong` comes where all their texts together pass 16,777,216
+/// bytes; else it stops as `run_program` does.
+pub fn end_buffers<F: Files, T: Tables>(
+    alloc: Global,
+    m: &mut Machine,
+    files: &mut F,
+    tables: &mut T,
+    calls: &mut Calls,
+) -> Result<(), Stop>
+    ensures { Does buffers_ended (world m.old (files_seen (F.stored files.old) (F.faults files.old) (F.answers files.old)) (seen (T.stored tables.old) (T.faults tables.old) (T.answers tables.old)) calls.old) result (world m.new (files_seen (F.stored files.new) (F.faults files.new) (F.answers files.new)) (seen (T.stored tables.new) (T.faults tables.new) (T.answers tables.new)) calls.new) }
+{
+    with_run(
+        m,
+        files,
+        tables,
+        calls,
+        |run| pages::end_buffers(alloc, run),
+    )
+}
+
+/// Takes one tick for each 256 bytes of so many, rounded down. FuelSpent, at the machine's line, comes exactly where that is more than what is left; then none is taken.
+pub fn charge_bytes(m: &mut Machine, bytes: u64) -> Result<(), Stop>
+    ensures { Acts (charge_of bytes) m.old result m.new }
+{
+    m.charge_bytes(bytes)
 }

@@ -1,15 +1,19 @@
 //! Evaluation, by walking the tree. `room` is how many more evaluations may be open. What nests in an evaluation is evaluated by a function value, so that each form
-//! is proved on its own; `evaluation` alone recurs, by giving itself, with less room each time.
+//! is proved on its own; `evaluation` alone recurs, by giving itself, with less room each time. A source text runs its statements with the room that it has.
 ghost use Rattle.resin_eval_calls.specs.Under.meaning_forms.Expressions.{item_key, items, turned_key};
 ghost use Rattle.resin_eval_calls.specs.Under.meaning_forms.Forms as form;
+ghost use Rattle.resin_eval_calls.specs.Under.meaning_forms.Invoke.{block};
 ghost use Rattle.resin_eval_calls.specs.Under.meaning_forms.Programs.{evals};
 ghost use Rattle.resin_eval_calls.specs.Under.meaning_forms.Runs.{Runs};
+ghost use Rattle.resin_eval_calls.specs.Under.meaning_forms.Sources.{file, statement_in};
 ghost use Rattle.resin_eval_calls.specs.Under.eval_nested.Nested.{Ends, Nests, means};
 ghost use Rattle.resin_eval_calls.specs.Under.eval_nested.Running.{Performs, at};
 ghost use Rattle.resin_eval_calls.specs.Under.value.Changes.{empty};
 ghost use Rattle.resin_eval_calls.specs.Under.value.Keys.{is_lawful};
+ghost use Rattle.std.specs.List.{filter_map};
 ghost use Rattle.std.specs.Prelude.{◌<◌, IfOk, IfSome, IsTrue, OnOk, suc};
 
+use crate::sources::read_nested;
 use resin_eval_calls::calls::Caller;
 use resin_eval_calls::under::base::{Files, Tables};
 use resin_eval_calls::under::eval_merges::merges::Merger;
@@ -19,6 +23,7 @@ use resin_eval_calls::under::items::Boxed;
 use resin_eval_calls::under::machine::{Machine, Stop};
 use resin_eval_calls::under::meaning_forms::Course;
 use resin_eval_calls::under::scalar::ScriptFault;
+use resin_eval_calls::under::step_parts::declarations::declare_all;
 use resin_eval_calls::under::step_parts::operators::{charge_all, compared, given, instance_of};
 use resin_eval_calls::under::step_parts::reads::{
     index_of, is_nothing, keyed, literal_value, property_of, with_entry,
@@ -27,13 +32,14 @@ use resin_eval_calls::under::step_parts::values::texts_joined;
 use resin_eval_calls::under::value::{Arr, Key, Value};
 use resin_eval_statements::forms::Statements;
 use resin_eval_statements::under::eval_assign::assign::Assigner;
-use resin_tree::{Access, ArrayItem, Expr, Operation, Stmt, Test};
+use resin_tree::{Access, ArrayItem, Expr, Item, Operation, Program, Stmt, Test};
 use std::alloc::Global;
 use std::marker::PhantomData;
 
 /// Evaluates an expression or a statement where `room` more evaluations may be open. It takes one of them and a tick, and gives itself to what nests further in. DepthSpent
-/// comes exactly where none is left; else it stops as what it evaluates does: by an exception, `exit`, a script fault with its line, a keeper call that failed, or want of
+/// comes exactly where none is left. A source text takes none, and its statements have the same room. Else it stops as what it evaluates does: by an exception, `exit`, a script fault with its line, a keeper call that failed, or want of
 /// memory, with which the journal, what the keepers hold and the calls made stand at a moment that the evaluation goes through.
+#[cycle(walk)]
 pub fn evaluation<F: Files, T: Tables>(
     alloc: Global,
     room: u32,
@@ -42,6 +48,11 @@ pub fn evaluation<F: Files, T: Tables>(
 ) -> Result<Outcome, Stop>
     ensures { Ends room what.entry (at F.Files T.Tables run.old) result (at F.Files T.Tables run.new) }
 {
+    if let Nested::Source(src) = what {
+        let p = read_nested(alloc, &run.machine, src)?;
+        let course = run_file(alloc, room, run, &p)?;
+        return Ok(Outcome::Course(course));
+    }
     if room == 0 {
         return Err(run.machine.fault(ScriptFault::DepthSpent));
     }
@@ -65,6 +76,60 @@ pub fn evaluation<F: Files, T: Tables>(
             let course = interpreter.stmt_by(run, s)?;
             Ok(Outcome::Course(course))
         }
+        Nested::Source(_) => unreachable!(),
+    }
+}
+
+/// The functions and classes of a file are declared in their order, then its statements run, where `room` more evaluations may be open. It stops as `evaluation` does.
+#[cycle(walk)]
+pub fn run_file<F: Files, T: Tables>(
+    alloc: Global,
+    room: u32,
+    run: &mut Run<F, T>,
+    p: &Program,
+) -> Result<Course, Stop>
+    ensures { Performs F.Files T.Tables (file (evals room) p.now) run.old result run.new }
+{
+    declare_all(&mut run.machine, p.items.as_slice())?;
+    run_items(alloc, room, run, p.items.as_slice())
+}
+
+// The statements of a file, one after the other, as long as each ends with going on.
+#[cycle(walk)]
+fn run_items<F: Files, T: Tables>(
+    alloc: Global,
+    room: u32,
+    run: &mut Run<F, T>,
+    items: &[Item],
+) -> Result<Course, Stop>
+    ensures { Performs F.Files T.Tables (block (evals room) (filter_map statement_in items.now)) run.old result run.new }
+{
+    for item in items {
+        if let Item::Statement(s) = item {
+            match run_statement(alloc, room, run, s)? {
+                Course::Next => {}
+                Course::Break => return Ok(Course::Break),
+                Course::Continue => return Ok(Course::Continue),
+                Course::Return(v) => return Ok(Course::Return(v)),
+            }
+        }
+    }
+    Ok(Course::Next)
+}
+
+// A statement of a file.
+#[cycle(walk)]
+fn run_statement<F: Files, T: Tables>(
+    alloc: Global,
+    room: u32,
+    run: &mut Run<F, T>,
+    s: &Stmt,
+) -> Result<Course, Stop>
+    ensures { Performs F.Files T.Tables ((evals room).stmt s.now) run.old result run.new }
+{
+    match evaluation(alloc, room, Nested::Statement(s), run)? {
+        Outcome::Course(course) => Ok(course),
+        Outcome::Value(_) => unreachable!(),
     }
 }
 

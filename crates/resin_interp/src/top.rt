@@ -1,71 +1,23 @@
 //! The program of a file, and calls by name from outside, over a run.
-ghost use Rattle.resin_eval_calls.specs.Under.meaning_forms.Invoke.{block};
-ghost use Rattle.resin_eval_calls.specs.Under.meaning_forms.Programs.{evals, file, flow_of, function_call, most_open, program, program_end, statement_in};
-ghost use Rattle.resin_eval_calls.specs.Under.meaning_forms.Writes.{context_of as page_context, leave};
-ghost use Rattle.resin_eval_calls.specs.Under.meaning_forms.declared.outgoing.Outgoing.TheVariants.{Page};
-ghost use Rattle.resin_eval_calls.specs.Under.journal.declared.channel.Channel.TheVariants.{Http};
+ghost use Rattle.resin_eval_calls.specs.Under.meaning_forms.Programs.{flow_of, function_call, program, program_end};
 ghost use Rattle.resin_eval_calls.specs.Under.eval_nested.Running.{Performs};
-ghost use Rattle.std.specs.List.{filter_map};
 ghost use Rattle.std.specs.Prelude.{IfOk, ◌≡◌};
 
-use crate::run::evaluation;
+use crate::run::{evaluation, run_file};
 use resin_eval_calls::calls::Caller;
 use resin_eval_calls::under::base::{Files, Tables};
 use resin_eval_calls::under::eval_nested::nested::Evaluator;
 use resin_eval_calls::under::eval_nested::run::Run;
-use resin_eval_calls::under::eval_writes::leaving::context_of;
-use resin_eval_calls::under::eval_writes::writes::Writer;
-use resin_eval_calls::under::lstr::LText;
 use resin_eval_calls::under::machine::Stop;
-use resin_eval_calls::under::meaning_forms::{Course, Flow, Outgoing};
-use resin_eval_calls::under::step_parts::declarations::declare_all;
+use resin_eval_calls::under::meaning_forms::{Course, Flow};
 use resin_eval_calls::under::step_parts::names::find_callee;
 use resin_eval_calls::under::value::{Value, Values};
-use resin_tree::{Item, Program};
+use resin_tree::Program;
 use std::alloc::{AllocError, Global};
 use std::marker::PhantomData;
 
 /// How many evaluations may be open at once.
 pub const MOST_OPEN: u32 = 1000;
-
-// The statements of a file, one after the other, as long as each ends with going on.
-fn run_items<F: Files, T: Tables>(
-    alloc: Global,
-    run: &mut Run<F, T>,
-    items: &[Item],
-) -> Result<Course, Stop>
-    ensures { Performs F.Files T.Tables (block (evals most_open) (filter_map statement_in items.now)) run.old result run.new }
-{
-    let evaluator = Evaluator {
-        alloc,
-        room: MOST_OPEN,
-        nested: evaluation::<F, T>,
-        of: PhantomData,
-    };
-    for item in items {
-        if let Item::Statement(s) = item {
-            match evaluator.stmt(run, s)? {
-                Course::Next => {}
-                Course::Break => return Ok(Course::Break),
-                Course::Continue => return Ok(Course::Continue),
-                Course::Return(v) => return Ok(Course::Return(v)),
-            }
-        }
-    }
-    Ok(Course::Next)
-}
-
-// The functions and classes of a file are declared in their order, before its statements run.
-fn run_file<F: Files, T: Tables>(
-    alloc: Global,
-    run: &mut Run<F, T>,
-    p: &Program,
-) -> Result<Course, Stop>
-    ensures { Performs F.Files T.Tables (file (evals most_open) p.now) run.old result run.new }
-{
-    declare_all(&mut run.machine, p.items.as_slice())?;
-    run_items(alloc, run, p.items.as_slice())
-}
 
 // How a program ends that ran to its end, or returned.
 fn flow_of(course: Course) -> Flow
@@ -101,7 +53,7 @@ pub fn perform<F: Files, T: Tables>(
 ) -> Result<Flow, Stop>
     ensures { Performs F.Files T.Tables (program p.now) run.old result run.new }
 {
-    let end = run_file(alloc, run, p);
+    let end = run_file(alloc, MOST_OPEN, run, p);
     program_end(end)
 }
 
@@ -135,22 +87,4 @@ pub fn perform_call<F: Files, T: Tables>(
         of: PhantomData,
     };
     Caller { by: &evaluator }.call_found(run, name, &callee, own)
-}
-
-/// A text leaves with the body of the answer: the filters of its channel are asked, then its policies, and then it goes out. It stops as `perform` does.
-pub fn leave_page<F: Files, T: Tables>(
-    alloc: Global,
-    run: &mut Run<F, T>,
-    text: LText,
-) -> Result<(), Stop>
-    ensures { Performs F.Files T.Tables (leave (evals most_open) Page (page_context Http) text) run.old result run.new }
-{
-    let context = Value::Arr(context_of(alloc, b"http")?);
-    let evaluator = Evaluator {
-        alloc,
-        room: MOST_OPEN,
-        nested: evaluation::<F, T>,
-        of: PhantomData,
-    };
-    Writer { by: &evaluator }.leave(run, &Outgoing::Page, &context, text)
 }

@@ -5,7 +5,7 @@ use Rattle.std.proofs.lemmas.Result.{err_from_is_err_and}
 use Rattle.std.proofs.lemmas.Grind.{common_steps}
 use Rattle.std.proofs.lemmas.List.{append-nil}
 use Rattle.resin_base.specs.Causes.{is_listed}
-use Rattle.resin_base.specs.FileStore.{FileStore}
+use Rattle.resin_store.specs.Files.{LabelledFiles}
 use Rattle.resin_base.specs.TableStore.{TableStore}
 use Rattle.resin_base.specs.Numbering.{AreNumbered}
 use Rattle.resin_base.specs.declared.calls.Calls.{Calls}
@@ -253,7 +253,7 @@ does_lost {A = A} {B = B} p f {u = u} {v = v} {x = x} d = unfold ◌>>=◌ then_
 
 -- ---- steps on the state
 
-abbrev goes_state : (m m' : State) (f : Seen FileStore) (t : Seen TableStore) (c : Calls) → m'.ticks ≤ m.ticks → Keeps m m' → Goes (world m f t c) (world m' f t c)
+abbrev goes_state : (m m' : State) (f : Seen LabelledFiles) (t : Seen TableStore) (c : Calls) → m'.ticks ≤ m.ticks → Keeps m m' → Goes (world m f t c) (world m' f t c)
 goes_state m m' f t c le k = record {
   calls = [];
   made = omega arith;
@@ -264,7 +264,7 @@ goes_state m m' f t c le k = record {
 }
 
 -- a longer step on the state
-pub does_loosely : {A : Type 0} (a : Act A) {m m' : State} {r : Result A Stop} (f : Seen FileStore) (t : Seen TableStore) (c : Calls) → ActsLoosely a m r m' → Does (act a) (world m f t c) r (world m' f t c)
+pub does_loosely : {A : Type 0} (a : Act A) {m m' : State} {r : Result A Stop} (f : Seen LabelledFiles) (t : Seen TableStore) (c : Calls) → ActsLoosely a m r m' → Does (act a) (world m f t c) r (world m' f t c)
 does_loosely {A = A} a {m = m} {m' = m'} {r = r} f t c h = cases r h.ties h.acted
   where
     exact : (r : Result A Stop) → r ≢ Err Memory → (r ≢ Err Memory → Tied m → Tied m') → Blames r (world m f t c) (world m' f t c) → a m ≡ (r, m') → Does (act a) (world m f t c) r (world m' f t c)
@@ -311,7 +311,7 @@ loosely {A = A} a m r m' h = record { acted = cases r h.acted; ticks = h.ticks; 
     cases (Err Memory) e = ap (λ (s : State). s.stage.journal) e
 
 -- a step on the state
-pub does_act : {A : Type 0} (a : Act A) {m m' : State} {r : Result A Stop} (f : Seen FileStore) (t : Seen TableStore) (c : Calls) → Acts a m r m' → Does (act a) (world m f t c) r (world m' f t c)
+pub does_act : {A : Type 0} (a : Act A) {m m' : State} {r : Result A Stop} (f : Seen LabelledFiles) (t : Seen TableStore) (c : Calls) → Acts a m r m' → Does (act a) (world m f t c) r (world m' f t c)
 does_act a {m = m} {m' = m'} {r = r} f t c h = does_loosely a f t c (loosely a m r m' h)
 
 -- ---- other compositions
@@ -337,7 +337,7 @@ pub record Encloses (enter : State → State) (leave : State → State → State
   pub ties : (m m' : State) → Tied m' → Tied (leave m m')
 
 -- a program in a changed state
-pub does_within : {A : Type 0} (enter : State → State) (leave : State → State → State) (p : Prog A) → Encloses enter leave → {m m' : State} {f f' : Seen FileStore} {t t' : Seen TableStore} {c c' : Calls} {r : Result A Stop}
+pub does_within : {A : Type 0} (enter : State → State) (leave : State → State → State) (p : Prog A) → Encloses enter leave → {m m' : State} {f f' : Seen LabelledFiles} {t t' : Seen TableStore} {c c' : Calls} {r : Result A Stop}
     → Does p (world (enter m) f t c) r (world m' f' t' c') → Does (within enter leave p) (world m f t c) r (world (leave m m') f' t' c')
 does_within {A = A} enter leave p enc {m = m} {m' = m'} {f = f} {f' = f'} {t = t} {t' = t'} {c = c} {c' = c'} {r = r} d = unfold within in does (record {
   goes = record {

@@ -2,7 +2,7 @@
 use Rattle.std.proofs.Common.{inl, ◌<◌, cond, nat_lt, ◌≡◌, ℕ, suc, List, [], ◌∷◌, length, Bool, true, false, Option, Result, Err, refl, sym, ap, ◌∙◌, arith}
 use Rattle.std.specs.Prelude.{◌==◌}
 use Rattle.std.proofs.lemmas.Bool.Decides.{nat_tests}
-use Rattle.resin_base.specs.FileStore.{FileStore}
+use Rattle.resin_store.specs.Files.{LabelledFiles}
 use Rattle.resin_base.specs.TableStore.{TableStore}
 use Rattle.resin_base.specs.declared.calls.Calls.{Calls}
 use Rattle.resin_machine.specs.Under.scope.Frames.{Frame, outer_of, left}
@@ -66,7 +66,7 @@ calling class = record {
 }
 
 -- a check, as the code has it: `hush` before it, and `restore` after it
-pub does_quietly : {A : Type 0} (p : Prog A) (m mh m1 m2 : State) (was : Bool) {f f' : Seen FileStore} {t t' : Seen TableStore} {c c' : Calls} {r : Result A Stop}
+pub does_quietly : {A : Type 0} (p : Prog A) (m mh m1 m2 : State) (was : Bool) {f f' : Seen LabelledFiles} {t t' : Seen TableStore} {c c' : Calls} {r : Result A Stop}
     → mh ≡ record m { checking = true } → was ≡ m.checking → m2 ≡ record m1 { checking = was }
     → Does p (world mh f t c) r (world m1 f' t' c') → Does (quietly p) (world m f t c) r (world m2 f' t' c')
 does_quietly p m mh m1 m2 was eh ew e2 d = rw (e2, ew) (does_within hushed unhushed p quiet (rw eh at d))
@@ -87,7 +87,7 @@ of_leaving : (w : ℕ) → 0 < w → (j k : EventList) → leaving j ≡ leaving
 of_leaving w pos j k e = of_filtered w pos j ∙ (ap (events_of w) e ∙ sym (of_filtered w pos k))
 
 -- a check leaves the write under way as it was
-pub under_way_after : {A : Type 0} (p : Prog A) (m mh m1 m2 : State) (was : Bool) {f f' : Seen FileStore} {t t' : Seen TableStore} {c c' : Calls} {r : Result A Stop} (w : ℕ) (ps : List ℕ)
+pub under_way_after : {A : Type 0} (p : Prog A) (m mh m1 m2 : State) (was : Bool) {f f' : Seen LabelledFiles} {t t' : Seen TableStore} {c c' : Calls} {r : Result A Stop} (w : ℕ) (ps : List ℕ)
     → mh ≡ record m { checking = true } → was ≡ m.checking → m2 ≡ record m1 { checking = was }
     → Does p (world mh f t c) r (world m1 f' t' c') → IsUnderWay w ps m → IsUnderWay w ps m2
 under_way_after p m mh m1 m2 was w ps eh ew e2 d o =
@@ -103,13 +103,13 @@ under_way_after p m mh m1 m2 was w ps eh ew e2 d o =
     })
 
 -- a statement, as the code has it: `set_line` before it and after it
-pub does_on_line : {A : Type 0} (n : ℕ) (p : Prog A) (m ml m1 m2 : State) (was : ℕ) {f f' : Seen FileStore} {t t' : Seen TableStore} {c c' : Calls} {r : Result A Stop}
+pub does_on_line : {A : Type 0} (n : ℕ) (p : Prog A) (m ml m1 m2 : State) (was : ℕ) {f f' : Seen LabelledFiles} {t t' : Seen TableStore} {c c' : Calls} {r : Result A Stop}
     → ml ≡ at_line n m → was ≡ m.line → m2 ≡ at_line was m1
     → Does p (world ml f t c) r (world m1 f' t' c') → Does (on_line n p) (world m f t c) r (world m2 f' t' c')
 does_on_line n p m ml m1 m2 was el ew e2 d = rw (e2, ew) (does_within (at_line n) back_at_line p (lined n) (rw el at d))
 
 -- a call, as the code has it: `enter` before it and `leave` after it
-pub does_framed : {A : Type 0} (class : Option ℕ) (p : Prog A) (m mc m1 m2 : State) (was : Option ℕ) {f f' : Seen FileStore} {t t' : Seen TableStore} {c c' : Calls} {r : Result A Stop}
+pub does_framed : {A : Type 0} (class : Option ℕ) (p : Prog A) (m mc m1 m2 : State) (was : Option ℕ) {f f' : Seen LabelledFiles} {t t' : Seen TableStore} {c c' : Calls} {r : Result A Stop}
     → mc ≡ in_call class m → was ≡ m.running → m2 ≡ record m1 { frames = left m1.frames; running = was }
     → Does p (world mc f t c) r (world m1 f' t' c') → Does (framed class p) (world m f t c) r (world m2 f' t' c')
 does_framed class p m mc m1 m2 was ec ew e2 d = rw (e2, ew) (does_within (in_call class) after_call p (calling class) (rw ec at d))
@@ -119,6 +119,6 @@ pub does_unframed : {A : Type 0} (class : Option ℕ) (p : Prog A) {u : World} �
 does_unframed class p = does_nothing (framed class p) (λ failing at. unfold within in inl refl)
 
 -- the call that was opened is open after what ran in it
-pub call_is_open : {A : Type 0} (class : Option ℕ) (p : Prog A) (m mc m1 : State) {f f' : Seen FileStore} {t t' : Seen TableStore} {c c' : Calls} {r : Result A Stop}
+pub call_is_open : {A : Type 0} (class : Option ℕ) (p : Prog A) (m mc m1 : State) {f f' : Seen LabelledFiles} {t t' : Seen TableStore} {c c' : Calls} {r : Result A Stop}
     → mc ≡ in_call class m → Does p (world mc f t c) r (world m1 f' t' c') → length m1.frames.calls ≡ suc (length m.frames.calls)
 call_is_open class p m mc m1 ec d = (done d).goes.keeps.open_calls ∙ ap (λ (s : State). length s.frames.calls) ec

@@ -2,10 +2,11 @@
 use Rattle.std.proofs.Common.{◌≡◌, ℕ, ◌+◌, ◌≤◌, ◌<◌, List, [], ◌∷◌, ◌++◌, Bool, true, false, cond, not, nat_lt, Option, Some, None, Result, Ok, Err, inl, inr, refl, sym, ap, subst, ◌∙◌, arith, IsErrAnd}
 use Rattle.std.proofs.lemmas.Result.{err_from_is_err_and}
 use Rattle.std.proofs.lemmas.Bool.Decides.{nat_tests}
-use Rattle.std.specs.FinMap.{get, remove, contains_key}
+use Rattle.std.specs.Option.{option_map}
+use Rattle.std.specs.FinMap.{get, insert, remove, contains_key}
 use Rattle.resin_base.specs.Causes.{last_count, HasCause, outcome, TellsMore, is_listed}
 use Rattle.resin_base.specs.Contents.{Told}
-use Rattle.resin_base.specs.FileStore.{FileStore, with_entry, Reads, Writes, Removes, Tests}
+use Rattle.resin_base.specs.FileStore.{FileStore, Reads, Writes, Removes, Tests}
 use Rattle.resin_base.specs.TableStore.{TableStore, columns_of, rows_of, next_number, after_create, after_insert, can_update, after_update, has_row, after_delete, Creates, ShowsColumns, ShowsRows, Inserts, Updates, Deletes}
 use Rattle.resin_base.specs.Numbering.{AreNumbered, Lists}
 use Rattle.resin_base.specs.declared.calls.Calls.{Calls}
@@ -22,9 +23,13 @@ use Rattle.resin_machine.specs.declared.stop.Stop.TheVariants.{Memory as NoMemor
 use Rattle.resin_machine.specs.State.{State}
 use Rattle.resin_machine.specs.Keeping.{Tied}
 use Rattle.resin_machine.proofs.Kept.{keeps_same}
+use Rattle.resin_store.specs.Entries.{Marked, Second, AreWritten, Good, plain, lift}
+use Rattle.resin_store.specs.Files.{LabelledFiles, lift_files, plain_files}
+use Rattle.resin_store.proofs.Lifts.{keeps_entries}
+use Rattle.resin_store.proofs.Stores.{keeps_files, lift_get, lift_contains, lift_remove, lift_written}
 use Rattle.resin_meaning.specs.Programs.{Store, Whole, KeeperCall, moment, stop, keep, called, on_files, on_tables, file_call, table_call}
-use Rattle.resin_meaning.specs.Runs.{Seen, World, world, IsAt, Goes, NoneFailed, LastFailed, Agrees, Reached, Does, does}
-use Rattle.resin_meaning.specs.KeeperCalls.{kept, Asks, Follows}
+use Rattle.resin_meaning.specs.Runs.{Seen, files_seen, World, world, IsAt, Goes, NoneFailed, LastFailed, Agrees, Reached, Does, does}
+use Rattle.resin_meaning.specs.KeeperCalls.{read_file, answered_by, lifted, kept, Asks, Follows}
 use Rattle.resin_meaning.proofs.Parts.{told_nothing, listed_last, listed_beyond}
 use Rattle.resin_meaning.proofs.Composition.{goes_nowhere, none_here}
 
@@ -147,7 +152,7 @@ does_spent {A = A} call change w le = does (record {
 })
 
 -- where the number of the next call wasn't listed
-pub does_unasked : {A : Type 0} (call : KeeperCall) (change : Store → A × Store) (m : State) (f : Seen FileStore) (t : Seen TableStore) (c c' : Calls) (s : Stop) (r : Result A Stop) → IsErrAnd r (λ e. e ≡ s) → Asks m c (Err s) c' → Does (keep call change) (world m f t c) r (world m f t c')
+pub does_unasked : {A : Type 0} (call : KeeperCall) (change : Store → A × Store) (m : State) (f : Seen LabelledFiles) (t : Seen TableStore) (c c' : Calls) (s : Stop) (r : Result A Stop) → IsErrAnd r (λ e. e ≡ s) → Asks m c (Err s) c' → Does (keep call change) (world m f t c) r (world m f t c')
 does_unasked {A = A} call change m f t c c' s r h (inl x, same) =
     let e = err_from_is_err_and r h in
     rw (e.1, e.2, x.0, same) (does_spent call change (world m f t c) x.1)
@@ -157,7 +162,7 @@ does_unasked {A = A} call change m f t c c' s r h (inr x, same) =
 
 -- ---- calls on the files
 
-abbrev file_goes : (name : List ℕ) (ch : Bool) (m : State) (f f' : Seen FileStore) (t : Seen TableStore) (c c' : Calls) (b : Bool) → c'.made ≡ c.made + 1 → TellsMore f.answers f'.answers (b ∷ []) → (AreNumbered c → is_listed c'.failed (c.made + 1) ≡ b) → Goes (world m f t c) (world m f' t c')
+abbrev file_goes : (name : List ℕ) (ch : Bool) (m : State) (f f' : Seen LabelledFiles) (t : Seen TableStore) (c c' : Calls) (b : Bool) → c'.made ≡ c.made + 1 → TellsMore f.answers f'.answers (b ∷ []) → (AreNumbered c → is_listed c'.failed (c.made + 1) ≡ b) → Goes (world m f t c) (world m f' t c')
 file_goes name ch m f f' t c c' b made told flag = record {
   calls = file_call name ch ∷ [];
   made = omega (arith, made);
@@ -167,7 +172,7 @@ file_goes name ch m f f' t c c' b made told flag = record {
   keeps = keeps_same m;
 }
 
-pub does_file_call : {A : Type 0} (name : List ℕ) (ch : Bool) (change : FileStore → A × FileStore) (m : State) (f f' : Seen FileStore) (t : Seen TableStore) (c c' : Calls) (answer : Result A KeepFault)
+pub does_file_call : {A : Type 0} (name : List ℕ) (ch : Bool) (change : LabelledFiles → A × LabelledFiles) (m : State) (f f' : Seen LabelledFiles) (t : Seen TableStore) (c c' : Calls) (answer : Result A KeepFault)
     → c.made < last_count → Lists c answer c' → Told f.stored f'.stored (λ s s'. Follows change s answer s') → HasCause f.faults f'.faults answer → TellsMore f.answers f'.answers (outcome answer)
     → Does (keep (file_call name ch) (on_files change)) (world m f t c) (kept answer) (world m f' t c')
 does_file_call name ch change m f f' t c c' (Ok v) lt l told cause tells =
@@ -190,9 +195,34 @@ does_file_call name ch change m f f' t c c' (Err Memory) lt l told cause tells =
     let x = told_at f.stored f'.stored _ at.store.files is.files told in
     record { state = is.state; files = ap Some (sym x.fact) ∙ x.is; tables = is.tables; made = is.made }))
 
+-- ---- an answer that is changed where there is one
+pub lists_by : {A B : Type 0} (f : A → B) (c c' : Calls) (answer : Result A KeepFault) → Lists c answer c' → Lists c (answered_by f answer) c'
+lists_by f c c' (Ok v) h = h
+lists_by f c c' (Err Failed) h = h
+lists_by f c c' (Err Memory) h = h
+
+pub cause_by : {A B : Type 0} (f : A → B) (before now : ℕ) (answer : Result A KeepFault) → HasCause before now answer → HasCause before now (answered_by f answer)
+cause_by f before now (Ok v) h = h
+cause_by f before now (Err Failed) h = h
+cause_by f before now (Err Memory) h = h
+
+pub outcome_by : {A B : Type 0} (f : A → B) (old new : Option (List Bool)) (answer : Result A KeepFault) → TellsMore old new (outcome answer) → TellsMore old new (outcome (answered_by f answer))
+outcome_by f old new (Ok v) h = h
+outcome_by f old new (Err Failed) h = h
+outcome_by f old new (Err Memory) h = h
+
+pub kept_by : {A B : Type 0} (f : A → B) (answer : Result A KeepFault) → kept (answered_by f answer) ≡ answered_by f (kept answer)
+kept_by f (Ok v) = refl
+kept_by f (Err Failed) = refl
+kept_by f (Err Memory) = refl
+
+pub stopped_by : {A B : Type 0} (f : A → B) (r : Result A Stop) (s : Stop) → IsErrAnd r (λ e. e ≡ s) → IsErrAnd (answered_by f r) (λ e. e ≡ s)
+stopped_by f (Ok v) s h = absurd h
+stopped_by f (Err e) s h = h
+
 -- ---- calls on the tables
 
-abbrev table_goes : (name : List ℕ) (ch : Bool) (m : State) (f : Seen FileStore) (t t' : Seen TableStore) (c c' : Calls) (b : Bool) → c'.made ≡ c.made + 1 → TellsMore t.answers t'.answers (b ∷ []) → (AreNumbered c → is_listed c'.failed (c.made + 1) ≡ b) → Goes (world m f t c) (world m f t' c')
+abbrev table_goes : (name : List ℕ) (ch : Bool) (m : State) (f : Seen LabelledFiles) (t t' : Seen TableStore) (c c' : Calls) (b : Bool) → c'.made ≡ c.made + 1 → TellsMore t.answers t'.answers (b ∷ []) → (AreNumbered c → is_listed c'.failed (c.made + 1) ≡ b) → Goes (world m f t c) (world m f t' c')
 table_goes name ch m f t t' c c' b made told flag = record {
   calls = table_call name ch ∷ [];
   made = omega (arith, made);
@@ -202,7 +232,7 @@ table_goes name ch m f t t' c c' b made told flag = record {
   keeps = keeps_same m;
 }
 
-pub does_table_call : {A : Type 0} (name : List ℕ) (ch : Bool) (change : TableStore → A × TableStore) (m : State) (f : Seen FileStore) (t t' : Seen TableStore) (c c' : Calls) (answer : Result A KeepFault)
+pub does_table_call : {A : Type 0} (name : List ℕ) (ch : Bool) (change : TableStore → A × TableStore) (m : State) (f : Seen LabelledFiles) (t t' : Seen TableStore) (c c' : Calls) (answer : Result A KeepFault)
     → c.made < last_count → Lists c answer c' → Told t.stored t'.stored (λ s s'. Follows change s answer s') → HasCause t.faults t'.faults answer → TellsMore t.answers t'.answers (outcome answer)
     → Does (keep (table_call name ch) (on_tables change)) (world m f t c) (kept answer) (world m f t' c')
 does_table_call name ch change m f t t' c c' (Ok v) lt l told cause tells =
@@ -232,33 +262,60 @@ told_map None y P Q k h = tt
 told_map (Some s) None P Q k h = absurd h
 told_map (Some s) (Some t) P Q k h = k s t h
 
-pub read_follows : (path : List ℕ) (x y : Option FileStore) (r : Result (Option Entry) KeepFault) → Told x y (λ s t. Reads s path r t) → Told x y (λ s t. Follows (λ s. (get s path, s)) s r t)
-read_follows path x y r h = told_map x y (λ s t. Reads s path r t) (λ s t. Follows (λ s. (get s path, s)) s r t) (cases r) h
-  where
-    cases : (r : Result (Option Entry) KeepFault) (s t : FileStore) → Reads s path r t → Follows (λ s. (get s path, s)) s r t
-    cases (Ok v) s t k = (k.1, k.0)
-    cases (Err e) s t k = k.0
+-- the same of the files with their policies
+told_lift : (x y : Option FileStore) (P : FileStore → FileStore → Type 0) (Q : LabelledFiles → LabelledFiles → Type 0) → ((s t : FileStore) → P s t → Q (lift_files s) (lift_files t)) → Told x y P
+    → Told (option_map lift_files x) (option_map lift_files y) Q
+told_lift None y P Q k h = tt
+told_lift (Some s) None P Q k h = absurd h
+told_lift (Some s) (Some t) P Q k h = k s t h
 
-pub write_follows : (path bytes shadow : List ℕ) (x y : Option FileStore) (r : Result (Unit {0}) KeepFault) → Told x y (λ s t. Writes s path bytes shadow r t) → Told x y (λ s t. Follows (λ s. (tt, with_entry s path bytes shadow)) s r t)
-write_follows path bytes shadow x y r h = told_map x y (λ s t. Writes s path bytes shadow r t) (λ s t. Follows (λ s. (tt, with_entry s path bytes shadow)) s r t) (cases r) h
-  where
-    cases : (r : Result (Unit {0}) KeepFault) (s t : FileStore) → Writes s path bytes shadow r t → Follows (λ s. (tt, with_entry s path bytes shadow)) s r t
-    cases (Ok v) s t k = (refl, k)
-    cases (Err e) s t k = k
+-- what a keeper holds of an entry that it answered
+pub kept_entry : (e : Entry) → plain (lift e) ≡ e
+kept_entry e = keeps_entries e
 
-pub remove_follows : (path : List ℕ) (x y : Option FileStore) (r : Result (Bool) KeepFault) → Told x y (λ s t. Removes s path r t) → Told x y (λ s t. Follows (λ s. (contains_key s path, remove s path)) s r t)
-remove_follows path x y r h = told_map x y (λ s t. Removes s path r t) (λ s t. Follows (λ s. (contains_key s path, remove s path)) s r t) (cases r) h
-  where
-    cases : (r : Result (Bool) KeepFault) (s t : FileStore) → Removes s path r t → Follows (λ s. (contains_key s path, remove s path)) s r t
-    cases (Ok v) s t k = k
-    cases (Err e) s t k = k
+-- and of all files
+pub kept_files : (s : FileStore) → plain_files (lift_files s) ≡ s
+kept_files s = keeps_files s
 
-pub exists_follows : (path : List ℕ) (x y : Option FileStore) (r : Result (Bool) KeepFault) → Told x y (λ s t. Tests s path r t) → Told x y (λ s t. Follows (λ s. (contains_key s path, s)) s r t)
-exists_follows path x y r h = told_map x y (λ s t. Tests s path r t) (λ s t. Follows (λ s. (contains_key s path, s)) s r t) (cases r) h
+pub read_follows : (path : List ℕ) (x y : Option FileStore) (r : Result (Option Entry) KeepFault) → Told x y (λ s t. Reads s path r t)
+    → Told (option_map lift_files x) (option_map lift_files y) (λ s t. Follows (λ s. (get s path, s)) s (lifted r) t)
+read_follows path x y r h = told_lift x y (λ s t. Reads s path r t) (λ s t. Follows (λ s. (get s path, s)) s (lifted r) t) (cases r) h
   where
-    cases : (r : Result (Bool) KeepFault) (s t : FileStore) → Tests s path r t → Follows (λ s. (contains_key s path, s)) s r t
-    cases (Ok v) s t k = (k.1, k.0)
-    cases (Err e) s t k = k.0
+    cases : (r : Result (Option Entry) KeepFault) (s t : FileStore) → Reads s path r t → Follows (λ s. (get s path, s)) (lift_files s) (lifted r) (lift_files t)
+    cases (Ok v) s t k = (ap (option_map lift) k.1 ∙ sym (lift_get s path), ap lift_files k.0)
+    cases (Err e) s t k = ap lift_files k.0
+
+pub does_read_call : (path : List ℕ) (m : State) (x x' : Option FileStore) (n n' : ℕ) (a a' : Option (List Bool)) (t : Seen TableStore) (c c' : Calls) (answer : Result (Option Entry) KeepFault)
+    → c.made < last_count → Lists c answer c' → Told x x' (λ s t. Reads s path answer t) → HasCause n n' answer → TellsMore a a' (outcome answer)
+    → Does (read_file path) (world m (files_seen x n a) t c) (lifted (kept answer)) (world m (files_seen x' n' a') t c')
+does_read_call path m x x' n n' a a' t c c' answer lt l told cause tells =
+    subst (λ r. Does (read_file path) (world m (files_seen x n a) t c) r (world m (files_seen x' n' a') t c')) (kept_by (option_map lift) answer)
+    (does_file_call path false (λ s. (get s path, s)) m (files_seen x n a) (files_seen x' n' a') t c c' (lifted answer) lt (lists_by (option_map lift) c c' answer l) (read_follows path x x' answer told)
+    (cause_by (option_map lift) n n' answer cause) (outcome_by (option_map lift) a a' answer tells))
+
+pub write_follows : (path bytes shadow : List ℕ) (d : Marked) (x y : Option FileStore) (r : Result (Unit {0}) KeepFault) → AreWritten bytes shadow d
+    → Told x y (λ s t. Writes s path bytes shadow r t) → Told (option_map lift_files x) (option_map lift_files y) (λ s t. Follows (λ s. (tt, insert s path (Good d Second))) s r t)
+write_follows path bytes shadow d x y r w h = told_lift x y (λ s t. Writes s path bytes shadow r t) (λ s t. Follows (λ s. (tt, insert s path (Good d Second))) s r t) (cases r) h
+  where
+    cases : (r : Result (Unit {0}) KeepFault) (s t : FileStore) → Writes s path bytes shadow r t → Follows (λ s. (tt, insert s path (Good d Second))) (lift_files s) r (lift_files t)
+    cases (Ok v) s t k = (refl, ap lift_files k ∙ lift_written s path bytes shadow d w)
+    cases (Err e) s t k = ap lift_files k
+
+pub remove_follows : (path : List ℕ) (x y : Option FileStore) (r : Result (Bool) KeepFault) → Told x y (λ s t. Removes s path r t)
+    → Told (option_map lift_files x) (option_map lift_files y) (λ s t. Follows (λ s. (contains_key s path, remove s path)) s r t)
+remove_follows path x y r h = told_lift x y (λ s t. Removes s path r t) (λ s t. Follows (λ s. (contains_key s path, remove s path)) s r t) (cases r) h
+  where
+    cases : (r : Result (Bool) KeepFault) (s t : FileStore) → Removes s path r t → Follows (λ s. (contains_key s path, remove s path)) (lift_files s) r (lift_files t)
+    cases (Ok v) s t k = (k.0 ∙ sym (lift_contains s path), ap lift_files k.1 ∙ lift_remove s path)
+    cases (Err e) s t k = ap lift_files k
+
+pub exists_follows : (path : List ℕ) (x y : Option FileStore) (r : Result (Bool) KeepFault) → Told x y (λ s t. Tests s path r t)
+    → Told (option_map lift_files x) (option_map lift_files y) (λ s t. Follows (λ s. (contains_key s path, s)) s r t)
+exists_follows path x y r h = told_lift x y (λ s t. Tests s path r t) (λ s t. Follows (λ s. (contains_key s path, s)) s r t) (cases r) h
+  where
+    cases : (r : Result (Bool) KeepFault) (s t : FileStore) → Tests s path r t → Follows (λ s. (contains_key s path, s)) (lift_files s) r (lift_files t)
+    cases (Ok v) s t k = (k.1 ∙ sym (lift_contains s path), ap lift_files k.0)
+    cases (Err e) s t k = ap lift_files k.0
 
 pub create_follows : (name : List ℕ) (columns : List Column) (x y : Option TableStore) (r : Result (Bool) KeepFault) → Told x y (λ s t. Creates s name columns r t) → Told x y (λ s t. Follows (λ s. (not (contains_key s name), after_create s name columns)) s r t)
 create_follows name columns x y r h = told_map x y (λ s t. Creates s name columns r t) (λ s t. Follows (λ s. (not (contains_key s name), after_create s name columns)) s r t) (cases r) h

@@ -1,8 +1,8 @@
 -- The keeper calls as programs: what each asks of the keepers' contents (the meanings of the calls stand in resin_base).
 use Rattle.std.specs.Prelude.{◌≡◌, ℕ, ◌≤◌, ◌<◌, Bool, true, false, not, List, Option, Result, Ok, Err, ◌⊎◌}
-use Rattle.std.specs.FinMap.{get, remove, contains_key}
+use Rattle.std.specs.FinMap.{get, insert, remove, contains_key}
+use Rattle.std.specs.Option.{option_map}
 use Rattle.resin_base.specs.Causes.{last_count}
-use Rattle.resin_base.specs.FileStore.{with_entry}
 use Rattle.resin_base.specs.TableStore.{columns_of, rows_of, next_number, after_create, after_insert, can_update, after_update, has_row, after_delete}
 use Rattle.resin_base.specs.Numbering.{IsAsked}
 use Rattle.resin_base.specs.declared.calls.Calls.{Calls}
@@ -17,15 +17,16 @@ use Rattle.resin_machine.specs.declared.stop.Stop.{Stop}
 use Rattle.resin_machine.specs.declared.stop.Stop.TheVariants.{Fault, Keeper}
 use Rattle.resin_machine.specs.declared.stop.Stop.TheVariants.{Memory as NoMemory}
 use Rattle.resin_machine.specs.State.{State}
+use Rattle.resin_store.specs.Entries.{Marked, LabelledEntry, Good, Second, lift}
 use Rattle.resin_meaning.specs.Programs.{Prog, keep, on_files, on_tables, file_call, table_call}
 
 -- the entry at a path
-abbrev pub read_file : List ℕ → Prog (Option Entry)
+abbrev pub read_file : List ℕ → Prog (Option LabelledEntry)
 read_file path = keep (file_call path false) (on_files (λ s. (get s path, s)))
 
--- sets the bytes and the shadow text at a path
-abbrev pub write_file : List ℕ → List ℕ → List ℕ → Prog (Unit {0})
-write_file path bytes shadow = keep (file_call path true) (on_files (λ s. (tt, with_entry s path bytes shadow)))
+-- sets the bytes at a path, each with its policies; what is written has the second version of shadow texts
+abbrev pub write_file : List ℕ → Marked → Prog (Unit {0})
+write_file path d = keep (file_call path true) (on_files (λ s. (tt, insert s path (Good d Second))))
 
 -- takes the entry at a path out, and says whether there was one
 abbrev pub remove_file : List ℕ → Prog Bool
@@ -64,6 +65,15 @@ abbrev pub kept : {A : Type 0} → Result A KeepFault → Result A Stop
 kept (Ok v) = Ok v
 kept (Err Failed) = Err Keeper
 kept (Err Memory) = Err NoMemory
+
+-- an answer, changed where there is one
+abbrev pub answered_by : {A B E : Type 0} → (A → B) → Result A E → Result B E
+answered_by f (Ok v) = Ok (f v)
+answered_by f (Err e) = Err e
+
+-- an entry that was answered, with the policies that its shadow text tells
+abbrev pub lifted : {E : Type 0} → Result (Option Entry) E → Result (Option LabelledEntry) E
+lifted r = answered_by (option_map lift) r
 
 -- the number of the next call is listed; there may be none left, or no memory
 abbrev pub Asks : State → Calls → Result (Unit {0}) Stop → Calls → Type 0

@@ -2,7 +2,6 @@
 -- program says how it ends, what it leaves, which keeper calls it makes, and through which moments it goes (this project).
 use Rattle.std.specs.Prelude.{ℕ, ◌+◌, List, [], ◌∷◌, ◌++◌, Bool, true, false, map, Option, Result, Ok, Err, if◌then◌else◌, nat_lt}
 use Rattle.resin_base.specs.Causes.{last_count, is_listed}
-use Rattle.resin_base.specs.FileStore.{FileStore}
 use Rattle.resin_base.specs.TableStore.{TableStore}
 use Rattle.resin_machine.specs.Under.scalar.declared.faults.ScriptFault.TheVariants.{FuelSpent}
 use Rattle.resin_machine.specs.Under.journal.Events.{EventList}
@@ -11,10 +10,11 @@ use Rattle.resin_machine.specs.declared.stop.Stop.TheVariants.{Thrown, Exit, Fau
 use Rattle.resin_machine.specs.State.{State}
 use Rattle.resin_machine.specs.Steps.{Act, at_line, back_at_line, hushed, unhushed}
 use Rattle.resin_machine.specs.Variables.{in_call, after_call}
+use Rattle.resin_store.specs.Files.{LabelledFiles}
 
--- what the keepers hold
+-- what the keepers hold, of files with the policies of each byte
 pub record Store : Type 0 where
-  pub files : FileStore
+  pub files : LabelledFiles
   pub tables : TableStore
 
 -- the state, what the keepers hold, and how many calls were made on them
@@ -141,7 +141,7 @@ keep call change failing at =
     else stop (Fault FuelSpent at.state.line) failing at
 
 -- a change of the files alone, and of the tables alone
-abbrev pub on_files : {A : Type 0} → (FileStore → A × FileStore) → Store → A × Store
+abbrev pub on_files : {A : Type 0} → (LabelledFiles → A × LabelledFiles) → Store → A × Store
 on_files change s = let o = change s.files in (o.0, record { files = o.1; tables = s.tables })
 
 abbrev pub on_tables : {A : Type 0} → (TableStore → A × TableStore) → Store → A × Store

@@ -1,5 +1,6 @@
 -- What a run of the code has to do with a program.
 use Rattle.std.specs.Prelude.{◌≡◌, ◌≢◌, ℕ, ◌+◌, ◌≤◌, ◌<◌, List, [], ◌∷◌, ◌++◌, length, Bool, true, false, not, Option, Some, Result, Ok, Err, ◌⊎◌, if◌then◌else◌}
+use Rattle.std.specs.Option.{option_map}
 use Rattle.resin_base.specs.Causes.{Counted, TellsMore, is_listed}
 use Rattle.resin_base.specs.FileStore.{FileStore}
 use Rattle.resin_base.specs.TableStore.{TableStore}
@@ -10,6 +11,7 @@ use Rattle.resin_machine.specs.declared.stop.Stop.TheVariants.{Thrown, Exit, Fau
 use Rattle.resin_machine.specs.State.{State}
 use Rattle.resin_machine.specs.Keeping.{Keeps, Tied}
 use Rattle.resin_meaning.specs.Programs.{Whole, KeeperCall, Moment, Out, Prog}
+use Rattle.resin_store.specs.Files.{LabelledFiles, lift_files}
 
 -- a keeper: what it holds, where it tells that; how often it failed; which of its calls failed, where it tells that
 pub record Seen (S : Type 0) : Type 0 where
@@ -20,14 +22,18 @@ pub record Seen (S : Type 0) : Type 0 where
 abbrev pub seen : {S : Type 0} → Option S → ℕ → Option (List Bool) → Seen S
 seen stored faults answers = record { stored = stored; faults = faults; answers = answers }
 
+-- a keeper of files, whose shadow texts tell the policies of what it holds
+abbrev pub files_seen : Option FileStore → ℕ → Option (List Bool) → Seen LabelledFiles
+files_seen stored faults answers = seen (option_map lift_files stored) faults answers
+
 -- the machine, the keepers and the numbered calls, as the code has them
 pub record World : Type 0 where
   pub state : State
-  pub files : Seen FileStore
+  pub files : Seen LabelledFiles
   pub tables : Seen TableStore
   pub calls : Calls
 
-abbrev pub world : State → Seen FileStore → Seen TableStore → Calls → World
+abbrev pub world : State → Seen LabelledFiles → Seen TableStore → Calls → World
 world state files tables calls = record { state = state; files = files; tables = tables; calls = calls }
 
 -- both keepers tell what they hold, and this is the whole of it

@@ -1,7 +1,7 @@
 //! Keeper calls on tables. Each is the next numbered call: it fails with a keeper stop exactly where the keeper failed, and is the fault FuelSpent
 //! exactly where no number is left. After want of memory neither the keeper nor the numbers are changed.
 ghost use Rattle.resin_meaning.specs.Runs.{Does, Seen, seen, world};
-ghost use Rattle.resin_base.specs.FileStore.{FileStore};
+ghost use Rattle.resin_store.specs.Files.{LabelledFiles};
 ghost use Rattle.resin_meaning.specs.KeeperCalls as asked;
 
 use crate::numbers::{ask, settle};
@@ -16,7 +16,7 @@ pub fn create_table<T: Tables>(
     name: &[u8],
     columns: &Columns,
 ) -> Result<bool, Stop>
-    ensures { (f : Seen FileStore) → Does (asked.create_table name.now columns.now)
+    ensures { (f : Seen LabelledFiles) → Does (asked.create_table name.now columns.now)
         (world m.now f (seen (T.stored tables.old) (T.faults tables.old) (T.answers tables.old)) calls.old) result
         (world m.now f (seen (T.stored tables.new) (T.faults tables.new) (T.answers tables.new)) calls.new) }
 {
@@ -32,7 +32,7 @@ pub fn table_columns<T: Tables>(
     calls: &mut Calls,
     name: &[u8],
 ) -> Result<Option<Columns>, Stop>
-    ensures { (f : Seen FileStore) → Does (asked.table_columns name.now)
+    ensures { (f : Seen LabelledFiles) → Does (asked.table_columns name.now)
         (world m.now f (seen (T.stored tables.old) (T.faults tables.old) (T.answers tables.old)) calls.old) result
         (world m.now f (seen (T.stored tables.new) (T.faults tables.new) (T.answers tables.new)) calls.new) }
 {
@@ -48,7 +48,7 @@ pub fn table_rows<T: Tables>(
     calls: &mut Calls,
     name: &[u8],
 ) -> Result<Rows, Stop>
-    ensures { (f : Seen FileStore) → Does (asked.table_rows name.now)
+    ensures { (f : Seen LabelledFiles) → Does (asked.table_rows name.now)
         (world m.now f (seen (T.stored tables.old) (T.faults tables.old) (T.answers tables.old)) calls.old) result
         (world m.now f (seen (T.stored tables.new) (T.faults tables.new) (T.answers tables.new)) calls.new) }
 {
@@ -65,7 +65,7 @@ pub fn insert_row<T: Tables>(
     name: &[u8],
     cells: &Cells,
 ) -> Result<Option<u64>, Stop>
-    ensures { (f : Seen FileStore) → Does (asked.insert_row name.now cells.now)
+    ensures { (f : Seen LabelledFiles) → Does (asked.insert_row name.now cells.now)
         (world m.now f (seen (T.stored tables.old) (T.faults tables.old) (T.answers tables.old)) calls.old) result
         (world m.now f (seen (T.stored tables.new) (T.faults tables.new) (T.answers tables.new)) calls.new) }
 {
@@ -83,7 +83,7 @@ pub fn update_row<T: Tables>(
     row: u64,
     cells: &Cells,
 ) -> Result<bool, Stop>
-    ensures { (f : Seen FileStore) → Does (asked.update_row name.now row cells.now)
+    ensures { (f : Seen LabelledFiles) → Does (asked.update_row name.now row cells.now)
         (world m.now f (seen (T.stored tables.old) (T.faults tables.old) (T.answers tables.old)) calls.old) result
         (world m.now f (seen (T.stored tables.new) (T.faults tables.new) (T.answers tables.new)) calls.new) }
 {
@@ -100,7 +100,7 @@ pub fn delete_row<T: Tables>(
     name: &[u8],
     row: u64,
 ) -> Result<bool, Stop>
-    ensures { (f : Seen FileStore) → Does (asked.delete_row name.now row)
+    ensures { (f : Seen LabelledFiles) → Does (asked.delete_row name.now row)
         (world m.now f (seen (T.stored tables.old) (T.faults tables.old) (T.answers tables.old)) calls.old) result
         (world m.now f (seen (T.stored tables.new) (T.faults tables.new) (T.answers tables.new)) calls.new) }
 {

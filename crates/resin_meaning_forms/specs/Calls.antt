@@ -30,7 +30,8 @@ use Rattle.resin_meaning_forms.specs.Merges.{list_of, values_in}
 use Rattle.resin_meaning_forms.specs.Names.{find_callee}
 use Rattle.resin_meaning_forms.specs.Writes.{plain}
 use Rattle.resin_meaning_forms.specs.Functions.{builtin, state_function}
-use Rattle.resin_meaning_forms.specs.Channels.{channel_function, unbuilt}
+use Rattle.resin_meaning_forms.specs.Channels.{channel_function}
+use Rattle.resin_meaning_forms.specs.Imports.{import_value}
 
 -- these values, and those of expressions behind them, from the left
 abbrev pub values_on : Evals → List Value → List Expr → Prog (List Value)
@@ -172,5 +173,5 @@ call_form ev c = elim (out-Call c) [
     class ← class_to_make name
     vs ← values ev es
     new_object ev class vs)
-  | Call-F.Import kind e ↦ unbuilt
+  | Call-F.Import kind e ↦ ev.expr e >>= λ v. import_value ev kind v
 ]

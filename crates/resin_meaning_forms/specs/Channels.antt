@@ -1,4 +1,5 @@
--- Functions of channels: output buffers, headers, the status and mail (PHP manual, "Output Control", "header", "http_response_code" and "mail").
+-- Functions of channels: output buffers, headers, the status, mail and files (PHP manual, "Output Control", "header", "http_response_code", "mail";
+-- files stand in Files.antt).
 use Rattle.std.specs.Prelude.{ℕ, ℤ, pos, negsuc, ◌==◌, ◌||◌, ◌&&◌, not, nat_le, List, [], ◌∷◌, ◌++◌, length, Bool, true, false, if◌then◌else◌, Option, None, Some, codes}
 use Rattle.std.specs.List.{list_any}
 use Rattle.resin_builtin.specs.Under.label.Sets.{empty as no_labels}
@@ -25,6 +26,7 @@ use Rattle.resin_meaning_forms.specs.declared.outgoing.Outgoing.TheVariants.{Hea
 use Rattle.resin_meaning_forms.specs.Parts.{Evals, computed, faulted, thrown_new, looked, charged, given, ◌>>◌}
 use Rattle.resin_meaning_forms.specs.Writes.{plain, context_of, leave, write_page}
 use Rattle.resin_meaning_forms.specs.Functions.{counted, arguments_of}
+use Rattle.resin_meaning_forms.specs.Files.{flags_in, get_contents, put_contents, unlink, exists}
 
 -- ---- buffers
 
@@ -78,7 +80,7 @@ mail_context to = Arr (put (TextKey (codes "email")) (text to) (put (TextKey (co
 
 -- ---- the calls
 
--- what is not built yet: no program that is run holds such a call
+-- no call is made of what isn't built yet
 abbrev pub unbuilt : {A : Type 0} → Prog A
 unbuilt = faulted UndefinedFunction
 
@@ -120,6 +122,10 @@ channel_work ev HeaderFunction (text line ∷ ts) = leave ev (HeaderLine (flag_i
 channel_work ev ResponseCode (n ∷ ts) = set_status ev (status_of n) n
 channel_work ev MailFunction (text to ∷ text subject ∷ text message ∷ ts) =
     if is_one_line to && is_one_line subject then (leave ev (Mail to subject) (mail_context to) message >> give (boolean true)) else thrown_new ValueError
+channel_work ev FilePutContents (text path ∷ text t ∷ ts) = put_contents ev (bytes_of path) t (flags_in ts)
+channel_work ev FileGetContents (text path ∷ ts) = get_contents ev (bytes_of path)
+channel_work ev Unlink (text path ∷ ts) = unlink (bytes_of path)
+channel_work ev FileExists (text path ∷ ts) = exists (bytes_of path)
 channel_work ev f ts = unbuilt
 
 -- files may be read in a check

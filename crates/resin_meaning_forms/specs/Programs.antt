@@ -1,26 +1,19 @@
 -- What trees mean by the room that is left for open evaluations, and what a file means.
-use Rattle.std.specs.Prelude.{ℕ, zero, suc, List, [], ◌∷◌, if◌then◌else◌, Option, None, Some, Result, Ok, Err}
-use Rattle.std.specs.List.{filter_map}
-use Rattle.resin_builtin.specs.Under.scalar.declared.faults.ScriptFault.TheVariants.{DepthSpent, Redeclared}
+use Rattle.std.specs.Prelude.{ℕ, zero, suc, List, Result, Ok, Err}
+use Rattle.resin_builtin.specs.Under.scalar.declared.faults.ScriptFault.TheVariants.{DepthSpent}
 use Rattle.resin_builtin.specs.Under.value.declared.value.Value.{Value}
-use Rattle.resin_target.specs.Under.tree.declared.declaration.Function.{Function}
-use Rattle.resin_target.specs.Under.tree.declared.declaration.Item.{Item}
-use Rattle.resin_target.specs.Under.tree.declared.declaration.Item.TheVariants as item
 use Rattle.resin_target.specs.Under.tree.declared.declaration.Program.{Program}
-use Rattle.resin_target.specs.Under.tree.declared.statement.Stmt.{Stmt}
 use Rattle.resin_target.specs.Under.tree.declared.statement.StmtKind.{StmtKind}
 use Rattle.resin_target.specs.Under.machine.declared.stop.Stop.{Stop}
 use Rattle.resin_target.specs.Under.machine.declared.stop.Stop.TheVariants.{Thrown, Exit as Exited, Fault, Keeper, Memory}
 use Rattle.resin_target.specs.Under.machine.Steps.{charge}
-use Rattle.resin_target.specs.Under.machine.Objects.{declare_function, declare_class}
 use Rattle.resin_meaning.specs.Programs.{Prog, give, ended, act, on_line, then_by}
 use Rattle.resin_meaning_forms.specs.declared.course.Course.{Course}
 use Rattle.resin_meaning_forms.specs.declared.course.Course.TheVariants.{Next, Break, Continue, Return}
 use Rattle.resin_meaning_forms.specs.declared.course.Flow.{Flow}
 use Rattle.resin_meaning_forms.specs.declared.course.Flow.TheVariants.{Done, Returned, Exit}
 use Rattle.resin_meaning_forms.specs.Parts.{Evals, faulted, ◌>>◌}
-use Rattle.resin_meaning_forms.specs.Invoke.{block}
-use Rattle.resin_meaning_forms.specs.Names.{is_taken}
+use Rattle.resin_meaning_forms.specs.Sources.{file}
 use Rattle.resin_meaning_forms.specs.Calls.{call_named}
 use Rattle.resin_meaning_forms.specs.Expressions.{expr_form, soft_form}
 use Rattle.resin_meaning_forms.specs.Statements.{stmt_form}
@@ -47,29 +40,6 @@ abbrev pub most_open : ℕ
 most_open = 1000
 
 -- ---- files
-
--- a function's name may be that of no other, of a script or of the runtime
-abbrev pub declare_new : Function → Prog (Unit {0})
-declare_new f = if is_taken f.name then faulted Redeclared else act (declare_function f)
-
--- a declaration runs at its own line
-abbrev pub declare : Item → Prog (Unit {0})
-declare (item.Function f) = on_line f.line (declare_new f)
-declare (item.Class d) = on_line d.line (act (declare_class d))
-declare (item.Statement s) = give tt
-
-abbrev pub declare_all : List Item → Prog (Unit {0})
-declare_all [] = give tt
-declare_all (i ∷ is) = declare i >> declare_all is
-
-abbrev pub statement_in : Item → Option Stmt
-statement_in (item.Statement s) = Some s
-statement_in (item.Function f) = None
-statement_in (item.Class d) = None
-
--- the functions and classes of a file are declared in their order, before its statements run
-abbrev pub file : Evals → Program → Prog Course
-file ev p = declare_all p.items >> block ev (filter_map statement_in p.items)
 
 -- how a program ends that ran to its end, returned, or ran `exit`
 abbrev pub flow_of : Course → Flow

@@ -13,6 +13,7 @@ pub use Rattle.resin_target.specs.Under.ops
 pub use Rattle.resin_builtin.specs.Under.scalar
 pub use Rattle.resin_target.specs.Under.scope
 pub use Rattle.resin_target.specs.Under.stage
+pub use Rattle.resin_meaning.specs.Under.store
 pub use Rattle.resin_target.specs as target
 pub use Rattle.resin_builtin.specs.Under.text_fn
 pub use Rattle.resin_target.specs.Under.tree

@@ -17,7 +17,7 @@ pub mod meaning {
     };
 }
 
-pub use resin_meaning::under::base;
+pub use resin_meaning::under::{base, store};
 /// `resin_target`
 pub mod target {
     pub use resin_target::{Hop, Index, Path, Place, at_index, at_property, erase, fetch, store};

@@ -29,7 +29,7 @@ use Rattle.resin_program_grammar.specs.Declarations.{rules, program}
 use Rattle.resin_program_grammar.specs.Programs.{place_of}
 use Rattle.resin_program_grammar.specs.Reading.{under}
 use Rattle.resin_parse.proofs.Whole.{by_lines, placed}
-use Rattle.resin_parse.specs.Parsed.{Lexed, with_token, lexed_from, lexed_by, lexed, if_whole, told, parsed_front, parsed}
+use Rattle.resin_program_grammar.specs.Parsed.{Lexed, with_token, lexed_from, lexed_by, lexed, if_whole, told, parsed_front, parsed}
 
 -- what stands first takes at least one byte
 takes : (o : Option Open) (at n : ℕ) (what : Option TokenKind) (act : Act) (x : ℕ) (xs : List ℕ) → Stands o at what act (take n (x ∷ xs)) (drop n (x ∷ xs)) → 0 < n

@@ -24,7 +24,7 @@ use Rattle.resin_program_grammar.specs.Declarations.{rules, program}
 use Rattle.resin_program_grammar.specs.Programs.{place_of, IsFaultPlace, IsParsed}
 use Rattle.resin_program_grammar.specs.Reading.{under}
 use Rattle.resin_parse.specs.Meaning.{HasOneMeaning}
-use Rattle.resin_parse.specs.Parsed.{Lexed, lexed_from, lexed_by, lexed, if_whole, told, parsed}
+use Rattle.resin_program_grammar.specs.Parsed.{Lexed, lexed_from, lexed_by, lexed, if_whole, told, parsed}
 use Rattle.resin_parse.proofs.AsParsed.{as_parsed, shorter, stands_so, early}
 use Rattle.resin_parse.proofs.Whole.{whole, ends_early, stops, too_deep}
 use Rattle.resin_parse.proofs.Within.{Cuts, same, longer, shorter as less, cuts, spelled_read, front_before}

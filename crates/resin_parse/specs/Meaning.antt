@@ -3,7 +3,7 @@ use Rattle.std.specs.Prelude.{◌≡◌, ◌≢◌, ℕ, List, Ok, Err}
 use Rattle.resin_lex.specs.declared.token.ParseFault.TheVariants as fault
 use Rattle.resin_tree.specs.declared.declaration.Program.{Program}
 use Rattle.resin_program_grammar.specs.Programs.{IsProgram, IsFaultPlace, IsDeepPlace, IsParsed}
-use Rattle.resin_parse.specs.Parsed.{parsed}
+use Rattle.resin_program_grammar.specs.Parsed.{parsed}
 
 -- Each text is exactly one of three: one program, a text that stops being the front of one at one fault place, or a text
 -- that nests too deep at one place.

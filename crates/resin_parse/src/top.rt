@@ -8,7 +8,7 @@ ghost use Rattle.resin_tree.specs.declared.declaration.Program.{Program as ThePr
 ghost use Rattle.resin_program_grammar.specs.Declarations as declarations;
 ghost use Rattle.resin_program_grammar.specs.Programs.{IsParsed, IsProgram, place_of};
 ghost use Rattle.resin_parse.specs.Meaning.{HasOneMeaning};
-ghost use Rattle.resin_parse.specs.Parsed.{IsAsParsed};
+ghost use Rattle.resin_program_grammar.specs.Parsed.{IsAsParsed};
 ghost use Rattle.resin_parse_statement.specs.Nested.{by, class_item, final_item, function_item, line_by, one_more_item, statement_item};
 
 use crate::class::Declarations;

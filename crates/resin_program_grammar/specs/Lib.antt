@@ -10,3 +10,4 @@ pub mod Statements
 pub mod Declarations
 pub mod Reading
 pub mod Programs
+pub mod Parsed

@@ -1,6 +1,4 @@
-pub mod Buffered
 pub mod Lent
-pub mod Places
 pub mod http_lemmas
 -- Passed on to the crates above, which list this one alone.
 pub use Rattle.resin_interp.proofs.meaning_lemmas

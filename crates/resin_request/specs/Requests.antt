@@ -1,80 +1,56 @@
 -- One request, as a program over its state and the keepers (this project).
-use Rattle.std.specs.Prelude.{ℕ, nat_lt, Bool, true, false, List, length, codes, Option, Some, None, if◌then◌else◌}
-use Rattle.resin_inputs.specs.Under.label.Sets.{empty as no_labels}
-use Rattle.resin_inputs.specs.Under.lstr.Texts.{carrying}
-use Rattle.resin_interp.specs.Under.journal.declared.channel.Channel.{Channel}
-use Rattle.resin_interp.specs.Under.journal.declared.channel.Channel.TheVariants.{Input, Code, File}
-use Rattle.resin_interp.specs.Under.base.declared.files.Entry.{Entry}
-use Rattle.resin_inputs.specs.Under.value.declared.value.Value.TheVariants.{Arr}
+use Rattle.std.specs.Prelude.{ℕ, List, codes, Option, Some, None, if◌then◌else◌}
+use Rattle.resin_inputs.specs.Under.lstr.Texts.{bytes_of}
+use Rattle.resin_interp.specs.Under.journal.declared.channel.Channel.TheVariants.{File}
 use Rattle.resin_inputs.specs.declared.arrays.InputArrays.{InputArrays}
-use Rattle.resin_interp.specs.Under.scope.Chained.{chain_of}
-use Rattle.resin_interp.specs.Under.machine.State.{State}
-use Rattle.resin_interp.specs.Under.machine.Variables.{assign}
-use Rattle.resin_interp.specs.Under.machine.Filters.{import_path}
-use Rattle.resin_interp.specs.Under.meaning.Programs.{Prog, give, act, ◌>>=◌}
+use Rattle.resin_interp.specs.Under.store.Entries.{LabelledEntry}
+use Rattle.resin_interp.specs.Under.meaning.Programs.{Prog, give, ◌>>=◌}
 use Rattle.resin_interp.specs.Under.meaning.KeeperCalls.{read_file}
-use Rattle.resin_interp.specs.Under.meaning_forms.Parts.{looked, ◌>>◌}
+use Rattle.resin_interp.specs.Under.meaning_forms.Parts.{◌>>◌}
+use Rattle.resin_interp.specs.Under.meaning_forms.Imports.{code_of}
+use Rattle.resin_interp.specs.Under.meaning_forms.Inputs.{set_inputs}
+use Rattle.resin_interp.specs.Under.meaning_forms.Keeping.{thaw_entry}
+use Rattle.resin_interp.specs.Under.meaning_forms.Programs.{evals, most_open}
+use Rattle.resin_interp.specs.Under.meaning_forms.Reading.{path_context, read_through}
+use Rattle.resin_interp.specs.Pages.{write_page, end_buffers}
 use Rattle.resin_request.specs.declared.request.Finish.{Finish}
-use Rattle.resin_request.specs.declared.request.Finish.TheVariants.{Answered, Missing, NotYet}
+use Rattle.resin_request.specs.declared.request.Finish.TheVariants.{Answered, Missing}
 use Rattle.resin_request.specs.Paths.{boot_path, is_open, is_script}
-use Rattle.resin_request.specs.Sources.{run_source, and_if_built, thaw}
-use Rattle.resin_request.specs.Buffers.{leave_page, end_buffers}
-
--- filters stand on a channel
-abbrev pub has_filters : Channel → State → Bool
-has_filters c m = nat_lt 0 (length (chain_of c m.chains))
-
--- what stands behind the filters of a channel, which aren't built; whether all of it is built
-abbrev pub unless_filtered : Channel → Prog Bool → Prog Bool
-unless_filtered c p = looked (has_filters c) >>= λ filtered. if filtered then give false else p
-
--- sets `$_GET`, `$_POST`, `$_COOKIE` and `$_SERVER`
-abbrev pub put_inputs : InputArrays → Prog Bool
-put_inputs a = do
-  act (assign (codes "_GET") (Arr a.get))
-  act (assign (codes "_POST") (Arr a.post))
-  act (assign (codes "_COOKIE") (Arr a.cookie))
-  act (assign (codes "_SERVER") (Arr a.server))
-  give true
-
--- the inputs pass their filters, and are set
-abbrev pub set_inputs : InputArrays → Prog Bool
-set_inputs a = unless_filtered Input (put_inputs a)
-
--- another file passes the filters of files, and goes out as one write
-abbrev pub send_file : List ℕ → Prog Bool
-send_file bytes = unless_filtered File (leave_page (carrying no_labels bytes) >> give true)
-
--- a step and what comes after it, where all of the step is built
-abbrev pub then_if_built : Prog Bool → Prog Finish → Prog Finish
-then_if_built p q = p >>= λ built. if built then q else give NotYet
+use Rattle.resin_request.specs.Sources.{run_source}
 
 -- the file that runs before each request, where it is there. Its top-level `return`, or an `exit` anywhere, ends it alone
-abbrev pub run_entry : Entry → Prog Bool
-run_entry e = and_if_built (thaw e) (run_source e.bytes)
+abbrev pub run_found : Option LabelledEntry → Prog (Unit {0})
+run_found None = give tt
+run_found (Some e) = thaw_entry e >>= λ t. run_source (bytes_of t)
 
-abbrev pub run_found : Option Entry → Prog Bool
-run_found None = give true
-run_found (Some e) = run_entry e
-
-abbrev pub run_boot : Prog Bool
+abbrev pub run_boot : Prog (Unit {0})
 run_boot = read_file boot_path >>= run_found
 
+-- the inputs pass their filters, and are set
+abbrev pub put_inputs : InputArrays → Prog (Unit {0})
+put_inputs a = set_inputs (evals most_open) a.get a.post a.cookie a.server
+
 -- a script passes the filters of source text, counts as imported, and runs
-abbrev pub run_script : List ℕ → List ℕ → Prog Bool
-run_script path src = unless_filtered Code (act (import_path path) >> run_source src)
+abbrev pub run_script : List ℕ → LabelledEntry → Prog (Unit {0})
+run_script path e = code_of (evals most_open) path e >>= run_source
 
-abbrev pub serve_text : List ℕ → List ℕ → Prog Bool
-serve_text path bytes = if is_script path then run_script path bytes else send_file bytes
+-- another file passes the filters of files, and goes out as one write
+abbrev pub send_file : List ℕ → LabelledEntry → Prog (Unit {0})
+send_file path e = thaw_entry e >>= λ t. read_through (evals most_open) File (path_context File path) t >>= write_page
 
--- the file of the request
-abbrev pub serve_file : List ℕ → Entry → Prog Bool
-serve_file path e = and_if_built (thaw e) (serve_text path e.bytes)
+-- the file of the request, as it was read first
+abbrev pub serve_file : List ℕ → LabelledEntry → Prog (Unit {0})
+serve_file path e = if is_script path then run_script path e else send_file path e
 
 -- the steps behind the first read
-abbrev pub serve_found : List ℕ → InputArrays → Option Entry → Prog Finish
+abbrev pub serve_found : List ℕ → InputArrays → Option LabelledEntry → Prog Finish
 serve_found path inputs None = give Missing
-serve_found path inputs (Some e) = then_if_built run_boot (then_if_built (set_inputs inputs) (then_if_built (serve_file path e) (end_buffers >> give Answered)))
+serve_found path inputs (Some e) = do
+  run_boot
+  put_inputs inputs
+  serve_file path e
+  end_buffers
+  give Answered
 
 -- One request for a path; where the path isn't open to requests, nothing is read. The file is read; where there is none, nothing else happens.
 -- `boot.php` runs, with empty inputs. The inputs are set. The file runs, or goes out. What open buffers hold goes out.

@@ -10,3 +10,4 @@ pub use Rattle.resin_interp.specs.Under.machine
 pub use Rattle.resin_interp.specs.Under.meaning
 pub use Rattle.resin_inputs.specs.Under.scalar
 pub use Rattle.resin_interp.specs.Under.stage
+pub use Rattle.resin_interp.specs.Under.store

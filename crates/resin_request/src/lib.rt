@@ -2,10 +2,8 @@
 //! go out.
 #![tactic(auto)]
 
-mod buffers;
 mod paths;
 mod request;
-mod source;
 pub mod under;
 
 pub use paths::{BOOT_PATH, PLAIN_KIND, is_open, is_script, kind_of, path_of};

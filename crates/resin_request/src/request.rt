@@ -1,21 +1,22 @@
 //! One request.
-ghost use Rattle.std.specs.Prelude.{◌≡◌, ◌≤◌, length, Some};
-ghost use Rattle.resin_inputs.specs.Under.lstr.Texts.{LONGEST};
-ghost use Rattle.resin_interp.specs.Under.meaning.Runs.{Does, seen, world};
+ghost use Rattle.std.specs.Prelude.{Some};
+ghost use Rattle.resin_inputs.specs.Under.lstr.Texts.{bytes_of};
+ghost use Rattle.resin_interp.specs.Under.meaning.Runs.{Does, files_seen, seen, world};
 ghost use Rattle.resin_interp.specs.Under.eval_nested.Running.{Performs};
-ghost use Rattle.resin_interp.specs.Under.meaning_forms.Runs.{Runs};
-ghost use Rattle.resin_request.specs.Requests.{has_filters, put_inputs, set_inputs, run_entry, run_boot, run_script, send_file, serve_text, serve_file, serve_found, request_program};
+ghost use Rattle.resin_interp.specs.Under.store.Entries.{lift};
+ghost use Rattle.resin_request.specs.Requests.{put_inputs, request_program, run_boot, run_found, run_script, send_file, serve_file, serve_found};
+ghost use Rattle.resin_request.specs.Sources.{run_source};
 
-use crate::buffers::end_buffers;
 use crate::paths::{BOOT_PATH, is_open, is_script};
-use crate::source::{run_source, thaw};
 use resin_inputs::InputArrays;
-use resin_inputs::under::value::Value;
+use resin_inputs::under::lstr::LText;
+use resin_interp::inputs::set_inputs;
 use resin_interp::lent::with_run;
+use resin_interp::pages::{code_of, end_buffers, filter_read, write_page};
+use resin_interp::sources::read_source;
 use resin_interp::under::base::{Calls, Entry, Files, Tables};
 use resin_interp::under::journal::Channel;
-use resin_interp::under::step_parts::reads::plain;
-use resin_interp::{Machine, Run, Stop, leave_page};
+use resin_interp::{Machine, Run, Stop, perform, thaw_entry};
 use std::alloc::Global;
 
 /// How the steps of a request come to their end.
@@ -25,62 +26,57 @@ pub enum Finish {
     Answered,
     /// There is no such file.
     Missing,
-    /// The request met what isn't built.
-    NotYet,
 }
 
-// Whether filters stand on a channel.
-fn has_filters(m: &Machine, channel: Channel) -> bool
-    ensures { result ≡ has_filters channel m.now }
-{
-    m.chains().chain(channel).len() > 0
-}
-
-// Sets `$_GET`, `$_POST`, `$_COOKIE` and `$_SERVER`.
-fn put_inputs(m: &mut Machine, inputs: InputArrays) -> Result<bool, Stop>
-    ensures { Runs (put_inputs inputs) m.old result m.new }
-{
-    m.assign(b"_GET", Value::Arr(inputs.get))?;
-    m.assign(b"_POST", Value::Arr(inputs.post))?;
-    m.assign(b"_COOKIE", Value::Arr(inputs.cookie))?;
-    m.assign(b"_SERVER", Value::Arr(inputs.server))?;
-    Ok(true)
-}
-
-// The inputs pass their filters, and are set.
-fn set_inputs(m: &mut Machine, inputs: InputArrays) -> Result<bool, Stop>
-    ensures { Runs (set_inputs inputs) m.old result m.new }
-{
-    if has_filters(m, Channel::Input) {
-        return Ok(false);
-    }
-    put_inputs(m, inputs)
-}
-
-// Runs the text of an entry.
-fn run_entry<F: Files, T: Tables>(
+// The program of a source text runs to its end, its top-level `return` or an `exit`, whichever comes first.
+fn run_source<F: Files, T: Tables>(
     alloc: Global,
     run: &mut Run<F, T>,
-    e: &Entry,
-) -> Result<bool, Stop>
-    ensures { Performs F.Files T.Tables (run_entry e.now) run.old result run.new }
+    src: &LText,
+) -> Result<(), Stop>
+    ensures { Performs F.Files T.Tables (run_source (bytes_of src.now)) run.old result run.new }
 {
-    let built = thaw(&run.machine, e)?;
-    if !built {
-        return Ok(false);
-    }
-    run_source(alloc, run, e.bytes.as_slice())
+    let _len = src.len();
+    let p = read_source(alloc, src.bytes())?;
+    let _flow = perform(alloc, run, &p)?;
+    Ok(())
 }
 
 // Runs `boot.php`, where it is there.
-fn run_boot<F: Files, T: Tables>(alloc: Global, run: &mut Run<F, T>) -> Result<bool, Stop>
+fn run_boot<F: Files, T: Tables>(alloc: Global, run: &mut Run<F, T>) -> Result<(), Stop>
     ensures { Performs F.Files T.Tables run_boot run.old result run.new }
 {
     let found = run.read_file(BOOT_PATH)?;
     match found {
-        None => Ok(true),
         Some(e) => run_entry(alloc, run, &e),
+        None => Ok(()),
     }
+}
+
+// Runs the text of an entry.
+fn run_entry<F: Files, T: Tables>(alloc: Global, run: &mut Run<F, T>, e: &Entry) -> Result<(), Stop>
+    ensures { Performs F.Files T.Tables (run_found (Some (lift e.now))) run.old result run.new }
+{
+    let text = thaw_entry(alloc, &mut run.machine, e)?;
+    run_source(alloc, run, &text)
+}
+
+// The inputs pass their filters, and are set.
+fn put_inputs<F: Files, T: Tables>(
+    alloc: Global,
+    run: &mut Run<F, T>,
+    inputs: &InputArrays,
+) -> Result<(), Stop>
+    ensures { Performs F.Files T.Tables (put_inputs inputs.now) run.old result run.new }
+{
+    set_inputs(
+        alloc,
+        run,
+        &inputs.get,
+        &inputs.post,
+        &inputs.cookie,
+        &inputs.server,
+    )
 }
 
 // The script of the request passes the filters of source text, counts as imported, and runs.
@@ -88,65 +84,42 @@ fn run_script<F: Files, T: Tables>(
     alloc: Global,
     run: &mut Run<F, T>,
     path: &[u8],
-    src: &[u8],
-) -> Result<bool, Stop>
-    requires { length src.now ≤ LONGEST }
-    ensures { Performs F.Files T.Tables (run_script path.now src.now) run.old result run.new }
+    e: &Entry,
+) -> Result<(), Stop>
+    ensures { Performs F.Files T.Tables (run_script path.now (lift e.now)) run.old result run.new }
 {
-    if has_filters(&run.machine, Channel::Code) {
-        return Ok(false);
-    }
-    run.machine.import(path)?;
-    run_source(alloc, run, src)
+    let src = code_of(alloc, run, path, e)?;
+    run_source(alloc, run, &src)
 }
 
 // A file that is no script passes the filters of files, and goes out as one write.
 fn send_file<F: Files, T: Tables>(
     alloc: Global,
     run: &mut Run<F, T>,
-    bytes: &[u8],
-) -> Result<bool, Stop>
-    ensures { Performs F.Files T.Tables (send_file bytes.now) run.old result run.new }
-{
-    if has_filters(&run.machine, Channel::File) {
-        return Ok(false);
-    }
-    let text = plain(alloc, bytes)?;
-    leave_page(alloc, run, text)?;
-    Ok(true)
-}
-
-// The text of the request's file runs, or goes out.
-fn serve_text<F: Files, T: Tables>(
-    alloc: Global,
-    run: &mut Run<F, T>,
     path: &[u8],
-    bytes: &[u8],
-) -> Result<bool, Stop>
-    requires { length bytes.now ≤ LONGEST }
-    ensures { Performs F.Files T.Tables (serve_text path.now bytes.now) run.old result run.new }
+    e: &Entry,
+) -> Result<(), Stop>
+    ensures { Performs F.Files T.Tables (send_file path.now (lift e.now)) run.old result run.new }
 {
-    if is_script(path) {
-        run_script(alloc, run, path, bytes)
-    } else {
-        send_file(alloc, run, bytes)
-    }
+    let text = thaw_entry(alloc, &mut run.machine, e)?;
+    let read = filter_read(alloc, run, Channel::File, path, &text)?;
+    write_page(alloc, run, &read)
 }
 
-// The file of the request.
+// The file of the request runs, or goes out.
 fn serve_file<F: Files, T: Tables>(
     alloc: Global,
     run: &mut Run<F, T>,
     path: &[u8],
     e: &Entry,
-) -> Result<bool, Stop>
-    ensures { Performs F.Files T.Tables (serve_file path.now e.now) run.old result run.new }
+) -> Result<(), Stop>
+    ensures { Performs F.Files T.Tables (serve_file path.now (lift e.now)) run.old result run.new }
 {
-    let built = thaw(&run.machine, e)?;
-    if !built {
-        return Ok(false);
+    if is_script(path) {
+        run_script(alloc, run, path, e)
+    } else {
+        send_file(alloc, run, path, e)
     }
-    serve_text(alloc, run, path, e.bytes.as_slice())
 }
 
 // The steps behind the first read, where the file is there.
@@ -154,23 +127,14 @@ fn serve_entry<F: Files, T: Tables>(
     alloc: Global,
     run: &mut Run<F, T>,
     path: &[u8],
-    inputs: InputArrays,
+    inputs: &InputArrays,
     e: &Entry,
 ) -> Result<Finish, Stop>
-    ensures { Performs F.Files T.Tables (serve_found path.now inputs (Some e.now)) run.old result run.new }
+    ensures { Performs F.Files T.Tables (serve_found path.now inputs.now (Some (lift e.now))) run.old result run.new }
 {
-    let boot = run_boot(alloc, run)?;
-    if !boot {
-        return Ok(Finish::NotYet);
-    }
-    let set = set_inputs(&mut run.machine, inputs)?;
-    if !set {
-        return Ok(Finish::NotYet);
-    }
-    let sent = serve_file(alloc, run, path, e)?;
-    if !sent {
-        return Ok(Finish::NotYet);
-    }
+    run_boot(alloc, run)?;
+    put_inputs(alloc, run, inputs)?;
+    serve_file(alloc, run, path, e)?;
     end_buffers(alloc, run)?;
     Ok(Finish::Answered)
 }
@@ -190,16 +154,15 @@ fn perform_request<F: Files, T: Tables>(
     let found = run.read_file(path)?;
     match found {
         None => Ok(Finish::Missing),
-        Some(e) => serve_entry(alloc, run, path, inputs, &e),
+        Some(e) => serve_entry(alloc, run, path, &inputs, &e),
     }
 }
 
 /// One request for a path, from the state in which a request begins. A path that isn't open to requests is missing, and nothing is read. The file
 /// is read; where there is none, nothing else happens. `boot.php`
-/// is read and, where it is there, runs with empty inputs: its top-level `return`, or an `exit` anywhere, ends it alone. The inputs are set. A
-/// script runs, and another file goes out as one write on `http`. What open output buffers hold goes out as one more write.
-///
-/// It answers `NotYet` where it meets stored labels, a program that isn't all built, or filters on the channels `input`, `code` or `file`.
+/// is read and, where it is there, runs with empty inputs: its top-level `return`, or an `exit` anywhere, ends it alone. The inputs pass the filters of `input`, and are
+/// set. A script passes the filters of `code`, and runs; another file passes those of `file`, and goes out as one write on `http`. What open output buffers hold goes out
+/// as one more write.
 ///
 /// # Errors
 ///
@@ -215,8 +178,8 @@ pub fn run_request<F: Files, T: Tables>(
     calls: &mut Calls,
 ) -> Result<Finish, Stop>
     ensures { Does (request_program path.now inputs)
-        (world m.old (seen (F.stored files.old) (F.faults files.old) (F.answers files.old)) (seen (T.stored tables.old) (T.faults tables.old) (T.answers tables.old)) calls.old) result
-        (world m.new (seen (F.stored files.new) (F.faults files.new) (F.answers files.new)) (seen (T.stored tables.new) (T.faults tables.new) (T.answers tables.new)) calls.new) }
+        (world m.old (files_seen (F.stored files.old) (F.faults files.old) (F.answers files.old)) (seen (T.stored tables.old) (T.faults tables.old) (T.answers tables.old)) calls.old) result
+        (world m.new (files_seen (F.stored files.new) (F.faults files.new) (F.answers files.new)) (seen (T.stored tables.new) (T.faults tables.new) (T.answers tables.new)) calls.new) }
 {
     with_run(
         m,

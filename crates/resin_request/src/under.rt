@@ -2,4 +2,4 @@
 
 pub use resin_http as http;
 pub use resin_inputs::under::{lstr, scalar};
-pub use resin_interp::under::{base, journal, label, machine};
+pub use resin_interp::under::{base, journal, label, machine, store};

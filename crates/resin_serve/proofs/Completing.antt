@@ -31,7 +31,7 @@ completes WriteFault R K T U old new s s' r r' k k' run g (inr (inl c)) a calm =
 completes WriteFault R K T U old new s s' r r' k k' run g (inr (inr c)) a calm = calm.out_stays c
 completes TraceTooLong R K T U old new s s' r r' k k' run g c a calm = let e = one_end T (Ok tt) (Err TooLong) g run.0 in cc
 completes StatusMemory R K T U old new s s' r r' k k' run g c a calm = tt
-completes NotYet R K T U old new s s' r r' k k' run g c a calm = tt
+completes NotYet R K T U old new s s' r r' k k' run g c a calm = run
 completes AuditRefused R K T U old new s s' r r' k k' run g c a calm = run
 
 -- a count that didn't rise stands where it stood, below its last value

@@ -3,7 +3,7 @@ use Rattle.std.proofs.Common.{◌≡◌, ℕ, ◌≤◌, ◌<◌, Bool, List, []
 use Rattle.resin_trace.specs.Records.{limit}
 use Rattle.resin_trace.specs.Seen.{Seen}
 use Rattle.resin_serve.specs.declared.give.Given.{Given}
-use Rattle.resin_serve.specs.declared.give.Given.TheVariants.{Whole, Fault, Memory as GivenMemory, NotYet as GivenNotYet}
+use Rattle.resin_serve.specs.declared.give.Given.TheVariants.{Whole, Fault, Memory as GivenMemory}
 use Rattle.resin_serve.specs.declared.status.Status.{Status}
 use Rattle.resin_serve.specs.declared.status.Status.TheVariants.{Usage, BadTrace, ReadFault, WriteFault, TraceTooLong, NotYet, AuditRefused}
 use Rattle.resin_serve.specs.declared.status.Status.TheVariants.{Ok as StatusOk, Memory as StatusMemory}
@@ -23,7 +23,7 @@ ends_run s ReadFault f = tt
 ends_run s WriteFault f = tt
 ends_run s TraceTooLong f = tt
 ends_run s StatusMemory f = tt
-ends_run s NotYet f = tt
+ends_run s NotYet f = f
 ends_run s AuditRefused f = f
 
 -- no call was made
@@ -42,7 +42,6 @@ pub caused_out : (g : Given) (log mail out out' : Counts) → Caused g out out' 
 caused_out Whole log mail out out' c = ap (sinks log mail) c
 caused_out Fault log mail out out' c = inr (inr c)
 caused_out GivenMemory log mail out out' c = ap (sinks log mail) c
-caused_out GivenNotYet log mail out out' c = ap (sinks log mail) c
 
 -- an audit over a calm outside comes to its verdict
 pub completes_audit : (status : Status) (text : List ℕ) (old new : Option (List ℕ)) (s s' : Sinks) (r r' : ℕ) (k k' : Keepers)

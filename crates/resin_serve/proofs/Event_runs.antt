@@ -8,7 +8,7 @@ use Rattle.resin_trace.specs.declared.event.TraceEvent.TheVariants.{Piece, End}
 use Rattle.resin_trace.specs.Lines.{Waiting, at, added as added_to}
 use Rattle.resin_site.specs.Keeping.{Later}
 use Rattle.resin_serve.specs.declared.give.Given.{Given}
-use Rattle.resin_serve.specs.declared.give.Given.TheVariants.{Whole, Fault, Memory, NotYet}
+use Rattle.resin_serve.specs.declared.give.Given.TheVariants.{Whole, Fault, Memory}
 use Rattle.resin_serve.specs.Meaning.{Meaning, life, life_from, grown, added, fresh}
 use Rattle.resin_serve.specs.Ran.{World, Ran}
 use Rattle.resin_serve.specs.Lines.{still, Ready, asked, Hold}
@@ -81,7 +81,6 @@ on_whole : (g : Given) (P Q : Type 0) → (P → Q) → OnWhole g P → OnWhole 
 on_whole Whole P Q f h = f h
 on_whole Fault P Q f h = h
 on_whole Memory P Q f h = h
-on_whole NotYet P Q f h = h
 
 -- a piece was served: put last on its connection, and the answers there given
 pub at_piece : (g : Given) (R : Meaning) (seen : List TraceEvent) (e : TraceEvent) (c place n n' made : ℕ) (failed bytes piece : List ℕ) (lines mid lines' : List (Option Waiting)) (old new : World)

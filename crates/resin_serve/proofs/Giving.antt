@@ -5,7 +5,7 @@ use Rattle.resin_site.specs.Under.base.Moves.{Gives}
 use Rattle.resin_site.specs.Under.base.Contents.{Told}
 use Rattle.std.proofs.lemmas.List.{append-nil, map-append, take-append-drop, take_all, drop_all}
 use Rattle.resin_serve.specs.declared.give.Given.{Given}
-use Rattle.resin_serve.specs.declared.give.Given.TheVariants.{Whole, Fault, Memory, NotYet}
+use Rattle.resin_serve.specs.declared.give.Given.TheVariants.{Whole, Fault, Memory}
 use Rattle.resin_serve.specs.Ran.{Grew, part, World, Gained}
 use Rattle.resin_serve.specs.Gives.{Gave, Came, GaveAll, Lost, three}
 use Rattle.resin_serve.proofs.Runs.{grew_trans, grew_none, part_append}
@@ -66,13 +66,11 @@ lost_rest : (g : Given) (k n : ℕ) (xs : List ℕ) → Came g n (length xs) →
 lost_rest Whole k n xs h = ap (tags k) (drop_all n xs (omega arith))
 lost_rest Fault k n xs h = λ e. not_nil k n xs [] h (append-nil _ ∙ e)
 lost_rest Memory k n xs h = λ e. not_nil k n xs [] h (append-nil _ ∙ e)
-lost_rest NotYet k n xs h = h
 
 lost_more : (g : Given) (k n : ℕ) (xs : List ℕ) (ys : List (ℕ × ℕ)) → (g ≡ Whole → ⊥) → Came g n (length xs) → Lost g (tags k (drop n xs) ++ ys)
 lost_more Whole k n xs ys ne h = absurd (ne refl)
 lost_more Fault k n xs ys ne h = not_nil k n xs ys h
 lost_more Memory k n xs ys ne h = not_nil k n xs ys h
-lost_more NotYet k n xs ys ne h = h
 
 whole_text : (text : List ℕ) (a b : Option (List ℕ)) → Gave Whole text a b → Grew a b text
 whole_text text a b h = subst (Grew a b) (take_all h.count text (let e : h.count ≡ length text = h.came in omega arith)) h.grew

@@ -4,7 +4,7 @@ use Rattle.std.proofs.lemmas.List.{append-nil, map-append, length-map}
 use Rattle.resin_site.specs.Under.http.Stream.{Answer}
 use Rattle.resin_trace.specs.Lines.{Waiting}
 use Rattle.resin_serve.specs.declared.give.Given.{Given}
-use Rattle.resin_serve.specs.declared.give.Given.TheVariants.{Whole, Fault, Memory, NotYet}
+use Rattle.resin_serve.specs.declared.give.Given.TheVariants.{Whole, Fault, Memory}
 use Rattle.resin_serve.specs.Meaning.{Meaning, Owed}
 use Rattle.resin_site.specs.Keeping.{Later}
 use Rattle.resin_serve.specs.Ran.{World, Ran}
@@ -113,7 +113,6 @@ pub on_whole : (g : Given) (P Q : Type 0) → (P → Q) → OnWhole g P → OnWh
 on_whole Whole P Q f h = f h
 on_whole Fault P Q f h = h
 on_whole Memory P Q f h = h
-on_whole NotYet P Q f h = h
 
 pub line_done : (g : Given) (R : Meaning) (conn n0 : ℕ) (old : Option Waiting) (w0 : World) (now now' : Option Waiting) (n n' made : ℕ) (failed : List ℕ) (w : World) (item : Answer)
     → LineLoop R conn n0 old w0 now n made failed w
@@ -135,4 +134,3 @@ pub on_stop : (g : Given) (P : Type 0) → (g ≡ Whole → ⊥) → OnWhole g P
 on_stop Whole P ne = absurd (ne refl)
 on_stop Fault P ne = tt
 on_stop Memory P ne = tt
-on_stop NotYet P ne = tt

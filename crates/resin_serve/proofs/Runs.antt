@@ -3,7 +3,7 @@ use Rattle.std.proofs.Common.{◌≡◌, ℕ, ◌+◌, true, false, cond, nat_eq
 use Rattle.std.specs.Prelude.{⊤}
 use Rattle.std.proofs.lemmas.List.{append-nil}
 use Rattle.resin_serve.specs.declared.give.Given.{Given}
-use Rattle.resin_serve.specs.declared.give.Given.TheVariants.{Whole, Fault, Memory, NotYet}
+use Rattle.resin_serve.specs.declared.give.Given.TheVariants.{Whole, Fault, Memory}
 use Rattle.resin_site.specs.Keeping.{Store, St, WhereTold, Later, Tells}
 use Rattle.resin_serve.specs.Meaning.{Meaning, Owed, tagged, reply, bytes_of, after_of, calls_of, IsLawfulAnswer, AllObey}
 use Rattle.std.specs.declared.alloc.AllocError.{AllocError}
@@ -12,7 +12,6 @@ use Rattle.resin_site.specs.Under.http.Stream.{asks, refuses}
 use Rattle.resin_serve.specs.Gives.{GaveAll, three}
 use Rattle.resin_site.specs.Under.http.declared.request.Request.{Request}
 use Rattle.resin_site.specs.declared.outcome.Outcome.{Outcome}
-use Rattle.resin_site.specs.declared.outcome.End.TheVariants.{NotYet as Unbuilt}
 use Rattle.resin_site.specs.Laws.{IsLawful, Obeys, ObeysIn}
 use Rattle.resin_site.specs.Serving.{Served, IsReply}
 use Rattle.resin_site.specs.Outcomes.{refusal_text}
@@ -21,9 +20,9 @@ use Rattle.resin_site.specs.Replies as site
 use Rattle.resin_serve.specs.declared.logging.Logging.{Logging}
 use Rattle.resin_serve.specs.declared.run.Service.{Service}
 use Rattle.resin_serve.specs.Logs.{logged, CanTell}
-use Rattle.resin_serve.specs.Asked.{is_unbuilt, recorded, served}
+use Rattle.resin_serve.specs.Asked.{recorded, served}
 use Rattle.resin_serve.specs.Records.{record_text}
-use Rattle.resin_serve.specs.Ran.{Grew, part, World, Gained, IsState, Called, Giving, Before, Amid, Meeting, RanFrom, Ran}
+use Rattle.resin_serve.specs.Ran.{Grew, part, World, Gained, IsState, Called, Giving, Before, Amid, RanFrom, Ran}
 use Rattle.resin_serve.proofs.Calling.{called_by, called_none, called_then, called_on, calls_append}
 
 pub bytes_append : (R : Meaning) (K : List ℕ) (s : St) (n m : ℕ) (xs ys : List Owed) → m ≡ n + length xs
@@ -124,24 +123,6 @@ amid_then R K s n m xs ys old mid new e a l c h =
       state = h.state;
     }
 
-meeting_then : (R : Meaning) (K : List ℕ) (s : St) (n m : ℕ) (xs ys : List Owed) (old mid new : World)
-    → m ≡ n + length xs → Gained old mid (bytes_of R K s n xs) → AllObey R K s n xs → Called K (calls_of R K s n xs) old mid → Meeting R K (after_of R K s n xs) m ys mid new → Meeting R K s n (xs ++ ys) old new
-meeting_then R K s n m xs ys old mid new e a l c h =
-    let num : m + length h.done ≡ n + length (xs ++ h.done) = omega (arith, length-append xs h.done) in
-    let st : after_of R K (after_of R K s n xs) m h.done ≡ after_of R K s n (xs ++ h.done) = sym (after_append R K s n m xs h.done e) in
-    record {
-      done = xs ++ h.done;
-      now = h.now;
-      later = h.later;
-      is = ap (λ l. xs ++ l) h.is ∙ sym (append_assoc xs h.done (h.now ∷ h.later));
-      not_yet = ap (λ k. (reply R K (after_of R K s n (xs ++ h.done)) k h.now).not_yet) (sym num)
-          ∙ ap (λ t. (reply R K t (m + length h.done) h.now).not_yet) (sym st) ∙ h.not_yet;
-      lawful = all_obey_append R K s n m xs h.done e l h.lawful;
-      gained = subst (Gained old new) (sym (bytes_append R K s n m xs h.done e)) (gained_trans old mid new _ _ a h.gained);
-      called = subst (λ l. Called K (calls_of R K s n l) old new) (sym (append_assoc xs h.done (h.now ∷ []))) (called_on R K s n m xs (h.done ++ h.now ∷ []) old mid new e c h.called);
-      state = subst (IsState new) (sym (after_append R K s n m xs (h.done ++ h.now ∷ []) e) ∙ ap (after_of R K s n) (sym (append_assoc xs h.done (h.now ∷ [])))) h.state;
-    }
-
 -- what goes on from a state that a whole run reached
 pub through_then : (g : Given) (Q : Owed → Type 0) (R : Meaning) (K : List ℕ) (s : St) (n m : ℕ) (xs ys : List Owed) (old mid new : World)
     → m ≡ n + length xs → Gained old mid (bytes_of R K s n xs) → AllObey R K s n xs → Called K (calls_of R K s n xs) old mid → RanFrom g Q R K (after_of R K s n xs) m ys mid new → RanFrom g Q R K s n (xs ++ ys) old new
@@ -155,7 +136,6 @@ through_then Fault Q R K s n m xs ys old mid new e a l c h = giving_then Q R K s
 through_then Memory Q R K s n m xs ys old mid new e a l c (inl h) = inl (giving_then (λ _. ⊤) R K s n m xs ys old mid new e a l c h)
 through_then Memory Q R K s n m xs ys old mid new e a l c (inr (inl h)) = inr (inl (before_then R K s n m xs ys old mid new e a l c h))
 through_then Memory Q R K s n m xs ys old mid new e a l c (inr (inr h)) = inr (inr (amid_then R K s n m xs ys old mid new e a l c h))
-through_then NotYet Q R K s n m xs ys old mid new e a l c h = meeting_then R K s n m xs ys old mid new e a l c h
 
 at_state : (w : World) (t : St) (P : St → Type 0) → IsState w t → WhereTold w.store (λ s. P (record { store = s; made = w.made })) → P t
 at_state w t P i h =
@@ -219,17 +199,6 @@ more_from Memory Q R K s n xs ys old new ne (inr (inr h)) = inr (inr (record {
   made = h.made;
   state = h.state;
 }))
-more_from NotYet Q R K s n xs ys old new ne h = record {
-  done = h.done;
-  now = h.now;
-  later = h.later ++ ys;
-  is = ap (λ l. l ++ ys) h.is ∙ append_assoc h.done (h.now ∷ h.later) ys;
-  not_yet = h.not_yet;
-  lawful = h.lawful;
-  gained = h.gained;
-  called = h.called;
-  state = h.state;
-}
 
 pub ran_more : (g : Given) (Q : Owed → Type 0) (R : Meaning) (K : List ℕ) (n : ℕ) (xs ys : List Owed) (old new : World)
     → (g ≡ Whole → ⊥) → Ran g Q R K n xs old new → Ran g Q R K n (xs ++ ys) old new
@@ -274,7 +243,6 @@ ran_near Fault Q Q' R K n xs old new f h = where_then old.store _ _ (λ s t. rec
   state = t.state;
 }) h
 ran_near Memory Q Q' R K n xs old new f h = h
-ran_near NotYet Q Q' R K n xs old new f h = h
 
 -- the calls of one answer
 one_called : (R : Meaning) (K : List ℕ) (s : St) (n : ℕ) (x : Owed) (old new : World) → Called K (reply R K s n x).is.calls old new → Called K (calls_of R K s n (x ∷ [])) old new
@@ -312,7 +280,6 @@ one_from Whole Q R K s n x old new q l a c i = record {
   state = i;
 }
 one_from Fault Q R K s n x old new q l a c i = one_given Fault Q R K s n x old new a.got a.lost q l a.split a.lost_is a.gained c i
-one_from NotYet Q R K s n x old new q l a c i = absurd a.lost_is
 one_from Memory Q R K s n x old new q l a c i = inl (one_given Memory (λ _. ⊤) R K s n x old new a.got a.lost tt l a.split a.lost_is a.gained c i)
 
 -- the log, the mail and the response of an answer are the reply's
@@ -372,28 +339,6 @@ ran_amid Q service K failed n conn place r e old new l m u h later = where_then 
       called = called_by K failed t.at.calls old new later t.called;
       state = t.store_is;
     }))) h
-
--- a request met what isn't built
-pub ran_met : (Q : Owed → Type 0) (service : Service) (K failed : List ℕ) (n conn place : ℕ) (r : Request) (o : Outcome) (old new : World)
-    → new.log ≡ old.log → new.mail ≡ old.mail → new.out ≡ old.out → o.end ≡ Unbuilt
-    → Served service.site K old.store old.made n r (λ calls. Tells calls old.told new.told old.made new.made failed) (Ok o) new.store new.made → Later new.made failed K
-    → Ran NotYet Q (served service) K n (record { conn = conn; asked = asks r; place = place } ∷ []) old new
-unfolding Ran
-ran_met Q service K failed n conn place r o old new l m u e h later = where_then old.store _ _ (λ s t.
-    let z : n ≡ n + 0 = omega arith in
-    record {
-      done = [];
-      now = record { conn = conn; asked = asks r; place = place };
-      later = [];
-      is = refl;
-      not_yet = subst (λ k. (reply (served service) K (record { store = s; made = old.made }) k (record { conn = conn; asked = asks r; place = place })).not_yet ≡ true) z
-          (ap is_unbuilt (sym t.says.end ∙ ap (λ x. Some x) e));
-      lawful = tt;
-      gained = gained_same old new l m u;
-      called = one_called (served service) K (record { store = s; made = old.made }) n (record { conn = conn; asked = asks r; place = place }) old new
-          (called_by K failed (site.request service.site K s old.made n r).calls old new later t.called);
-      state = (t.made_is, t.store_is);
-    }) h
 
 -- no keeper was called
 called_same : (K : List ℕ) (old new : World) → new.told ≡ old.told → new.made ≡ old.made → Called K [] old new

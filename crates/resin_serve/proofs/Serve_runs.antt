@@ -18,7 +18,7 @@ use Rattle.resin_trace.proofs.Existing.{some_word}
 use Rattle.resin_trace.proofs.Verdicts_of.{begins, feeds, breaks, finishes}
 use Rattle.resin_site.specs.Keeping.{Later, Passes}
 use Rattle.resin_serve.specs.declared.give.Given.{Given}
-use Rattle.resin_serve.specs.declared.give.Given.TheVariants.{Whole, Fault, Memory, NotYet}
+use Rattle.resin_serve.specs.declared.give.Given.TheVariants.{Whole, Fault, Memory}
 use Rattle.resin_serve.specs.declared.run.Ready.{Ready}
 use Rattle.resin_serve.specs.declared.run.Ready.TheVariants.{Wait, Bad, TooLong}
 use Rattle.resin_serve.specs.declared.status.Status.{Status}
@@ -295,13 +295,6 @@ pub ends_memory : (R : Meaning) (left left' : Option (List ℕ)) (reader : Seen)
 ends_memory R left left' reader n made failed lines old new taken j K T k p = runs_over StatusMemory R K T left left' old new taken j.told p (λ U e.
     stopped_of Memory (λ _. Unit {0}) R K T j.es (fed reader U) old new (λ f. cc) (read_on taken T U j.es reader e j.read)
     (ran_near Memory (Near taken) (λ _. Unit {0}) R K 1 _ old new (λ a c. tt) (j.ran K k)))
-
-pub ends_unbuilt : (R : Meaning) (left left' : Option (List ℕ)) (reader : Seen) (n made : ℕ) (failed : List ℕ) (lines : List (Option Waiting)) (old new : World) (taken : List ℕ)
-    → Joined NotYet R left left' reader n made failed lines old new taken
-    → (K T : List ℕ) → Later made failed K → left ≡ Some T → RunsFrom StatusNotYet R K T left' old new
-ends_unbuilt R left left' reader n made failed lines old new taken j K T k p = runs_over StatusNotYet R K T left left' old new taken j.told p (λ U e.
-    stopped_of NotYet (λ _. Unit {0}) R K T j.es (fed reader U) old new (λ f. cc) (read_on taken T U j.es reader e j.read)
-    (ran_near NotYet (Near taken) (λ _. Unit {0}) R K 1 _ old new (λ a c. tt) (j.ran K k)))
 
 pub ends_read : (R : Meaning) (left mid left' : Option (List ℕ)) (reader : Seen) (n made : ℕ) (failed : List ℕ) (lines : List (Option Waiting)) (old new : World) (taken buf filled : List ℕ) (f : Failed)
     → Joined Whole R left mid reader n made failed lines old new taken × Stands Wait reader → Told mid left' (Takes buf filled (Err f))

@@ -1,19 +1,12 @@
 -- The meaning of an answer in a run: the site's, with what it puts into the log and the record of its response (this project).
-use Rattle.std.specs.Prelude.{ℕ, Bool, false, Option, Some, None}
-use Rattle.resin_site.specs.declared.outcome.End.{End}
+use Rattle.std.specs.Prelude.{ℕ}
 use Rattle.resin_site.specs.Replies.{answer}
-use Rattle.resin_site.specs.Outcomes as site
 use Rattle.resin_site.specs.Replies as replies
 use Rattle.resin_serve.specs.Meaning.{Reply, Meaning}
 use Rattle.resin_serve.specs.Records.{record_text}
 use Rattle.resin_serve.specs.Logs.{logged}
 use Rattle.resin_serve.specs.declared.logging.Logging.{Logging}
 use Rattle.resin_serve.specs.declared.run.Service.{Service}
-
--- the answer met what isn't built
-abbrev pub is_unbuilt : Option End → Bool
-is_unbuilt None = false
-is_unbuilt (Some end) = site.is_unbuilt end
 
 -- the reply of the site in an answer of this number, with what it puts into the log, and the record of its response on a connection
 abbrev pub recorded : Logging → ℕ → ℕ → replies.Reply → Reply
@@ -23,7 +16,6 @@ recorded logging number conn r = record {
   mail = r.mail;
   out = record_text conn r.response;
   is = r;
-  not_yet = is_unbuilt r.end;
   after = r.after;
   moments = r.moments;
 }

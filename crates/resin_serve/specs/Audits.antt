@@ -59,7 +59,7 @@ EndsAudit StatusMemory = ⊤
 EndsAudit NotYet = ⊥
 EndsAudit AuditRefused = ⊤
 
--- a run ends by no status of an audit alone, nor by Usage
+-- a run ends by no status of an audit alone, nor by those of words
 abbrev pub EndsRun : Status → Type 0
 EndsRun StatusOk = ⊤
 EndsRun Usage = ⊥
@@ -68,7 +68,7 @@ EndsRun ReadFault = ⊤
 EndsRun WriteFault = ⊤
 EndsRun TraceTooLong = ⊤
 EndsRun StatusMemory = ⊤
-EndsRun NotYet = ⊤
+EndsRun NotYet = ⊥
 EndsRun AuditRefused = ⊥
 
 -- a fact of an audit that gave nothing

@@ -2,14 +2,13 @@
 use Rattle.std.specs.Prelude.{◌≡◌, ◌≢◌, ℕ, ◌<◌, List, [], ◌++◌, length, take, map, Option, ◌⊎◌}
 use Rattle.resin_site.specs.Under.base.Causes.{Rose}
 use Rattle.resin_serve.specs.declared.give.Given.{Given}
-use Rattle.resin_serve.specs.declared.give.Given.TheVariants.{Whole, Fault, Memory, NotYet}
+use Rattle.resin_serve.specs.declared.give.Given.TheVariants.{Whole, Fault, Memory}
 use Rattle.resin_serve.specs.Ran.{Grew, Gained, World}
 
 abbrev pub Came : Given → ℕ → ℕ → Type 0
 Came Whole n all = n ≡ all
 Came Fault n all = n < all
 Came Memory n all = n < all
-Came NotYet n all = ⊥
 
 -- a front of the text was given, and all of it exactly where giving came to its end
 pub record Gave (g : Given) (text : List ℕ) (old new : Option (List ℕ)) : Type 0 where
@@ -21,7 +20,6 @@ abbrev pub Lost : Given → List (ℕ × ℕ) → Type 0
 Lost Whole lost = lost ≡ []
 Lost Fault lost = lost ≢ []
 Lost Memory lost = lost ≢ []
-Lost NotYet lost = ⊥
 
 -- the bytes of three texts with the number of their sink, in the order in which they are given
 abbrev pub three : List ℕ → List ℕ → List ℕ → List (ℕ × ℕ)
@@ -51,7 +49,6 @@ abbrev pub Caused : Given → Counts → Counts → Type 0
 Caused Whole old new = new ≡ old
 Caused Fault old new = RoseIn old new
 Caused Memory old new = new ≡ old
-Caused NotYet old new = new ≡ old
 
 -- the counts of the three sinks
 pub record Sinks : Type 0 where
@@ -67,4 +64,3 @@ abbrev pub CausedIn : Given → Sinks → Sinks → Type 0
 CausedIn Whole old new = new ≡ old
 CausedIn Fault old new = RoseIn old.log new.log ⊎ (RoseIn old.mail new.mail ⊎ RoseIn old.out new.out)
 CausedIn Memory old new = new ≡ old
-CausedIn NotYet old new = new ≡ old

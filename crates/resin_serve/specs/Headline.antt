@@ -7,7 +7,7 @@ use Rattle.resin_serve.specs.declared.status.Status.TheVariants.{Ok as StatusOk,
 use Rattle.resin_serve.specs.Gives.{RoseIn, Sinks}
 use Rattle.resin_serve.specs.Kept.{Keepers}
 
--- the run came to the end of the trace, or stopped for want of memory or at what isn't built
+-- the run came to the end of the trace, or stopped for want of memory
 abbrev pub Completes : Status → Type 0
 Completes StatusOk = ⊤
 Completes Usage = ⊥
@@ -16,7 +16,7 @@ Completes ReadFault = ⊥
 Completes WriteFault = ⊥
 Completes TraceTooLong = ⊥
 Completes StatusMemory = ⊤
-Completes NotYet = ⊤
+Completes NotYet = ⊥
 Completes AuditRefused = ⊥
 
 -- no count rose

@@ -1,5 +1,5 @@
 -- The meaning of a run (this project): what each stream is owed, in the order in which records complete it, and one request after another.
-use Rattle.std.specs.Prelude.{ℕ, ◌+◌, ◌==◌, Bool, List, [], ◌∷◌, ◌++◌, length, drop, map, if◌then◌else◌, ⊤}
+use Rattle.std.specs.Prelude.{ℕ, ◌+◌, ◌==◌, List, [], ◌∷◌, ◌++◌, length, drop, map, if◌then◌else◌, ⊤}
 use Rattle.resin_site.specs.Under.meaning.Programs.{KeeperCall, Moment}
 use Rattle.resin_site.specs.Keeping.{St}
 use Rattle.resin_trace.specs.declared.event.TraceEvent.{TraceEvent}
@@ -10,15 +10,14 @@ use Rattle.resin_site.specs.Replies as site
 use Rattle.resin_serve.specs.declared.logging.Logging.{Logging}
 use Rattle.resin_serve.specs.Logs.{CanTell}
 
--- what an answer gives to the three sinks, with what its log tells, the reply of the site that it is, whether it meets what isn't built, the state after
--- it, and the moments that it goes through: each with what the keepers hold then and the answer's keeper calls until then
+-- what an answer gives to the three sinks, with what its log tells, the reply of the site that it is, the state after it, and
+-- the moments that it goes through: each with what the keepers hold then and the answer's keeper calls until then
 pub record Reply : Type 0 where
   pub logging : Logging
   pub log : List ℕ
   pub mail : List ℕ
   pub out : List ℕ
   pub is : site.Reply
-  pub not_yet : Bool
   pub after : St
   pub moments : List Moment
 

@@ -1,7 +1,7 @@
 -- How far a run came (this project).
-use Rattle.std.specs.Prelude.{◌≡◌, ◌≢◌, ℕ, ◌+◌, ◌==◌, true, List, [], ◌∷◌, ◌++◌, length, if◌then◌else◌, Option, Some, None, ⊤, ◌⊎◌}
+use Rattle.std.specs.Prelude.{◌≡◌, ◌≢◌, ℕ, ◌+◌, ◌==◌, List, [], ◌∷◌, ◌++◌, length, if◌then◌else◌, Option, Some, None, ⊤, ◌⊎◌}
 use Rattle.resin_serve.specs.declared.give.Given.{Given}
-use Rattle.resin_serve.specs.declared.give.Given.TheVariants.{Whole, Fault, Memory, NotYet}
+use Rattle.resin_serve.specs.declared.give.Given.TheVariants.{Whole, Fault, Memory}
 use Rattle.resin_site.specs.Under.meaning.Programs.{KeeperCall, Moment}
 use Rattle.resin_site.specs.Under.meaning.Runs.{Reached}
 use Rattle.resin_site.specs.Keeping.{Store, St, WhereTold, Answers, Tells}
@@ -45,7 +45,7 @@ IsState w s = (w.made ≡ s.made) × (w.store ≡ Some s.store)
 abbrev pub Called : List ℕ → List KeeperCall → World → World → Type 0
 Called K calls old new = Tells calls old.told new.told old.made new.made K
 
--- How a run ends follows, in five records. In each of them `lawful` says that every answer that gave a byte obeys the access law, and `called` that
+-- How a run ends follows, in four records. In each of them `lawful` says that every answer that gave a byte obeys the access law, and `called` that
 -- the keeper calls that were made are those that the meaning makes until then.
 
 -- a run from a state over answers that stopped while an answer's bytes were given: a front of them was, and some weren't
@@ -88,18 +88,6 @@ pub record Amid (R : Meaning) (K : List ℕ) (s : St) (number : ℕ) (xs : List 
   pub called : Called K (calls_of R K s number done ++ at.calls) old new
   pub state : new.store ≡ Some at.store
 
--- the run met what isn't built, after everything before it was served
-pub record Meeting (R : Meaning) (K : List ℕ) (s : St) (number : ℕ) (xs : List Owed) (old new : World) : Type 0 where
-  pub done : List Owed
-  pub now : Owed
-  pub later : List Owed
-  pub is : xs ≡ done ++ now ∷ later
-  pub not_yet : (reply R K (after_of R K s number done) (number + length done) now).not_yet ≡ true
-  pub lawful : AllObey R K s number done
-  pub gained : Gained old new (bytes_of R K s number done)
-  pub called : Called K (calls_of R K s number (done ++ now ∷ [])) old new
-  pub state : IsState new (after_of R K s number (done ++ now ∷ []))
-
 -- the whole run
 pub record Through (R : Meaning) (K : List ℕ) (s : St) (number : ℕ) (xs : List Owed) (old new : World) : Type 0 where
   pub lawful : AllObey R K s number xs
@@ -111,7 +99,6 @@ abbrev pub RanFrom : Given → (Owed → Type 0) → Meaning → List ℕ → St
 RanFrom Whole Q R K s number xs old new = Through R K s number xs old new
 RanFrom Fault Q R K s number xs old new = Giving Q R K s number xs old new
 RanFrom Memory Q R K s number xs old new = Giving (λ _. ⊤) R K s number xs old new ⊎ (Before R K s number xs old new ⊎ Amid R K s number xs old new)
-RanFrom NotYet Q R K s number xs old new = Meeting R K s number xs old new
 
 -- the run came so far, where the keepers tell what they hold
 unfoldable pub Ran : Given → (Owed → Type 0) → Meaning → List ℕ → ℕ → List Owed → World → World → Type 0

@@ -7,9 +7,9 @@ use Rattle.resin_trace.specs.Lines.{Waiting}
 use Rattle.resin_trace.specs.Verdicts.{HasRead}
 use Rattle.resin_serve.specs.declared.run.Ready.{Ready}
 use Rattle.resin_serve.specs.declared.run.Ready.TheVariants.{Wait, Bad, TooLong}
-use Rattle.resin_serve.specs.declared.run.Ready.TheVariants.{Fault as ReadyFault, Memory as ReadyMemory, NotYet as ReadyNotYet}
+use Rattle.resin_serve.specs.declared.run.Ready.TheVariants.{Fault as ReadyFault, Memory as ReadyMemory}
 use Rattle.resin_serve.specs.declared.give.Given.{Given}
-use Rattle.resin_serve.specs.declared.give.Given.TheVariants.{Whole, Fault, Memory, NotYet}
+use Rattle.resin_serve.specs.declared.give.Given.TheVariants.{Whole, Fault, Memory}
 use Rattle.resin_serve.specs.Meaning.{Meaning, Owed, fresh, order}
 use Rattle.resin_site.specs.Keeping.{Later}
 use Rattle.resin_serve.specs.Ran.{World, Ran}
@@ -19,7 +19,6 @@ abbrev pub OnWhole : Given → Type 0 → Type 0
 OnWhole Whole P = P
 OnWhole Fault P = ⊤
 OnWhole Memory P = ⊤
-OnWhole NotYet P = ⊤
 
 -- a connection gave all that it had, and goes on from there
 pub record RanLine (old new : Option Waiting) (before after : ℕ) : Type 0 where
@@ -60,7 +59,6 @@ given_of (Bad offset) = Whole
 given_of TooLong = Whole
 given_of ReadyFault = Fault
 given_of ReadyMemory = Memory
-given_of ReadyNotYet = NotYet
 
 -- what stands where the records end
 abbrev pub Stands : Ready → Seen → Type 0
@@ -69,7 +67,6 @@ Stands (Bad offset) s = NoRecord s.rest × (CanGo s.rest → ⊥) × (offset ≡
 Stands TooLong s = NoRecord s.rest × CanGo s.rest × (s.over ≡ true)
 Stands ReadyFault s = ⊤
 Stands ReadyMemory s = ⊤
-Stands ReadyNotYet s = ⊤
 
 pub record Went (r : Ready) (R : Meaning) (b : ℕ) (seen : List TraceEvent) (read read' : Seen) (n n' made : ℕ) (failed : List ℕ) (connections : List (Option Waiting)) (old new : World) : Type 0 where
   pub on : WentOn (given_of r) R b seen read read' n n' made failed connections old new

@@ -10,7 +10,7 @@ use Rattle.resin_trace.specs.Verdicts.{IsGood, IsBad, IsLong, HasRead}
 use Rattle.resin_site.specs.Under.base.Causes.{Rose}
 use Rattle.resin_serve.specs.declared.give.Given.{Given}
 use Rattle.resin_serve.specs.declared.give.Given.TheVariants.{Whole}
-use Rattle.resin_serve.specs.declared.give.Given.TheVariants.{Fault as GivenFault, Memory as GivenMemory, NotYet as GivenNotYet}
+use Rattle.resin_serve.specs.declared.give.Given.TheVariants.{Fault as GivenFault, Memory as GivenMemory}
 use Rattle.resin_serve.specs.declared.status.Status.{Status}
 use Rattle.resin_serve.specs.declared.status.Status.TheVariants.{Usage, BadTrace, ReadFault, WriteFault, TraceTooLong, NotYet, AuditRefused}
 use Rattle.resin_serve.specs.declared.status.Status.TheVariants.{Ok as StatusOk, Memory as StatusMemory}
@@ -35,7 +35,7 @@ abbrev pub RunOf : Given → (Owed → Type 0) → Meaning → List ℕ → List
 RunOf g Q R K trace old new = (records : List (TraceEvent × ℕ)) (rest : List ℕ) → Records trace records rest → Ran g Q R K 1 (order [] records) old new
 
 -- how a run over a trace ends, of which these bytes were taken: after a good, a bad and a too long trace all its records were served; after
--- a read fault those that stand whole in what was taken; a write fault, want of memory and what isn't built stop it
+-- a read fault those that stand whole in what was taken; a write fault and want of memory stop it
 abbrev pub Runs : Status → Meaning → List ℕ → List ℕ → List ℕ → World → World → Type 0
 Runs StatusOk R K trace taken old new = IsGood trace × RunOf Whole (λ _. ⊤) R K trace old new
 Runs Usage R K trace taken old new = ⊥
@@ -44,7 +44,7 @@ Runs ReadFault R K trace taken old new = RunOf Whole (λ _. ⊤) R K taken old n
 Runs WriteFault R K trace taken old new = RunOf GivenFault (Near taken) R K trace old new
 Runs TraceTooLong R K trace taken old new = IsLong trace × RunOf Whole (λ _. ⊤) R K trace old new
 Runs StatusMemory R K trace taken old new = RunOf GivenMemory (λ _. ⊤) R K trace old new
-Runs NotYet R K trace taken old new = RunOf GivenNotYet (λ _. ⊤) R K trace old new
+Runs NotYet R K trace taken old new = ⊥
 Runs AuditRefused R K trace taken old new = ⊥
 
 -- The run of a trace that a source held, which now tells what is left of it: bytes were taken from the front of the trace, and the run came so far.
@@ -63,7 +63,7 @@ given_of_status ReadFault = Whole
 given_of_status WriteFault = GivenFault
 given_of_status TraceTooLong = Whole
 given_of_status StatusMemory = GivenMemory
-given_of_status NotYet = GivenNotYet
+given_of_status NotYet = Whole
 given_of_status AuditRefused = Whole
 
 -- a read fault comes only where the source's count rose, and else it stayed

@@ -96,7 +96,7 @@ fn audit_text<O: Sink>(alloc: Global, text: &[u8], out: &mut O) -> Status
     match give_all(out, line.as_slice()) {
         Given::Whole => status_of(verdict),
         Given::Fault => Status::WriteFault,
-        Given::Memory | Given::NotYet => Status::Memory,
+        Given::Memory => Status::Memory,
     }
 }
 

@@ -15,8 +15,6 @@ pub enum Given {
     Fault,
     /// There was no memory.
     Memory,
-    /// A request met what isn't built yet.
-    NotYet,
 }
 
 /// Gives a whole text to a sink, which is lent all that is left of it each time.

@@ -23,7 +23,7 @@ use crate::waiting::WaitingStreams;
 use resin_site::under::base::{Calls, Files, Sink, Tables};
 use resin_site::under::http::{Request, Step};
 use resin_site::under::journal::Journal;
-use resin_site::{End, Outcome, Site, refusal, serve_one};
+use resin_site::{Outcome, Site, refusal, serve_one};
 use resin_trace::{TraceEvent, TraceFault, TraceReader};
 use std::alloc::Global;
 
@@ -146,12 +146,7 @@ pub(crate) fn serve_request<F: Files, T: Tables, L: Sink, M: Sink, O: Sink>(
     let Ok(outcome) = served else {
         return Given::Memory;
     };
-    match outcome.end {
-        End::NotYet => Given::NotYet,
-        End::Served | End::NotFound | End::Uncaught(_) | End::Fault(_, _) | End::Keeper => {
-            give_outcome(run, log, mail, out, conn, &outcome)
-        }
-    }
+    give_outcome(run, log, mail, out, conn, &outcome)
 }
 
 /// Answers a refusal, which makes no keeper call.
@@ -288,8 +283,6 @@ pub enum Ready {
     Fault,
     /// There was no memory.
     Memory,
-    /// A request met what isn't built yet.
-    NotYet,
 }
 
 /// Serves the records that stand whole.
@@ -322,7 +315,6 @@ pub(crate) fn serve_ready<F: Files, T: Tables, L: Sink, M: Sink, O: Sink>(
                     Given::Whole => {}
                     Given::Fault => return Ready::Fault,
                     Given::Memory => return Ready::Memory,
-                    Given::NotYet => return Ready::NotYet,
                 }
             }
             Ok(None) => return Ready::Wait,

@@ -30,7 +30,7 @@ pub enum Status {
     TraceTooLong,
     /// There was no memory.
     Memory,
-    /// A request met what isn't built yet.
+    /// The words ask for what isn't built yet. No run and no audit ends so.
     NotYet,
     /// The audited text is no journal file, or a journal of it breaks the access law.
     AuditRefused,

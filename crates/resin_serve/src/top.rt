@@ -80,7 +80,7 @@ pub fn serve<S: Source, O: Sink, L: Sink, M: Sink, F: Files, T: Tables>(
         (sinks (counts (L.faults log.new) (L.stalls log.new)) (counts (M.faults mail.new) (M.stalls mail.new)) (counts (O.faults out.new) (O.stalls out.new))) }
     ensures read { ReadCause result.status (S.faults trace.old) (S.faults trace.new) }
 
-    // A good trace over a calm outside is served to its end, unless memory is wanting or something isn't built.
+    // A good trace over a calm outside is served to its end, unless memory is wanting.
     ensures complete { (logging : Logging) (fuel : ℕ) (all : List ℕ) → task_of (map string_bytes words.now) ≡ Some (Task.Run logging fuel) → S.left trace.old ≡ Some all → IsGood all
         → Calm (S.faults trace.old) (S.faults trace.new)
         (sinks (counts (L.faults log.old) (L.stalls log.old)) (counts (M.faults mail.old) (M.stalls mail.old)) (counts (O.faults out.old) (O.stalls out.old)))
@@ -210,7 +210,6 @@ fn serve_trace<S: Source, F: Files, T: Tables, L: Sink, M: Sink, O: Sink>(
             Ready::TooLong => return Status::TraceTooLong,
             Ready::Fault => return Status::WriteFault,
             Ready::Memory => return Status::Memory,
-            Ready::NotYet => return Status::NotYet,
         }
         let count = match trace.take(&mut buffer) {
             Ok(count) => count,

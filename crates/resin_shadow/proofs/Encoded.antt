@@ -54,7 +54,7 @@ module _ (t : Table) (h : IsTable t) where
       ap (λ p. p ∷ map (λ n. place nat_eq n M) ns) (place_related (HasNumber t.texts.keys) nat_eq bytes_eq (λ a c b d. numbers_agree t h a c b d) n x M T a.0 (texts_related t h))
       ∙ ap (λ ps. place bytes_eq x T ∷ ps) (places_same ns s a.1)
 
-  rising_is : (k : ℕ) (s : TextSet) → HasKind t.sets.keys t.texts.keys k s → AreIn T s → rising M (numbered t.sets.keys k) ≡ places T s
+  pub rising_is : (k : ℕ) (s : TextSet) → HasKind t.sets.keys t.texts.keys k s → AreIn T s → rising M (numbered t.sets.keys k) ≡ places T s
   rising_is k s a i =
       ap (rising M) (numbered_is t.sets.keys k a.0 a.1) ∙ ap (fold (insert_key nat_cmp) []) (places_same a.0 s a.2) ∙ places_rise T s (policies_apart V) i
 
@@ -98,7 +98,7 @@ module _ (t : Table) (h : IsTable t) where
   within : Each (IsWithin T) V
   within = sets_within V (marks_of_table t h).sets
 
-  runs_in : Each (λ r. AreIn T r.1) (map run_of t.runs.items)
+  pub runs_in : Each (λ r. AreIn T r.1) (map run_of t.runs.items)
   runs_in = subst (Each (λ r. AreIn T r.1)) runs_are (runs_hold (AreIn T) V (each_map (IsWithin T) (AreIn T) V (λ s p. p.there) within))
 
   sets_in : Each (AreIn T) S

@@ -12,3 +12,5 @@ pub mod Tables
 pub mod Turning
 pub mod Ending
 pub mod Finding
+pub mod Apart
+pub mod Behind

@@ -297,7 +297,7 @@ any_here : (t : List ℕ) (pre s : TextSet) → list_any (bytes_eq t) (pre ++ t 
 any_here t [] s = or_left (bytes_eq t t) (list_any (bytes_eq t) s) ((bytes_eq-Decides t t).1 refl)
 any_here t (x ∷ pre) s = or_right (bytes_eq t x) (list_any (bytes_eq t) (pre ++ t ∷ s)) (any_here t pre s)
 
-in_itself : (pre s : TextSet) → AreIn (pre ++ s) s
+pub in_itself : (pre s : TextSet) → AreIn (pre ++ s) s
 in_itself pre [] = tt
 in_itself pre (t ∷ s) = (any_here t pre s, subst (λ ys. AreIn ys s) (joined pre t s) (in_itself (pre ++ t ∷ []) s))
 

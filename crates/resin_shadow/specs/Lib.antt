@@ -6,3 +6,4 @@ pub mod Printed
 pub mod Readers
 pub mod Answers
 pub mod Laws
+pub mod Parts

@@ -68,4 +68,17 @@ impl FrozenRuns {
         let kind = self.table.kind_of(set)?;
         self.table.push_kind(len, &kind)
     }
+
+    /// Puts the bytes of others behind these, with their policies. The bytes of both must be a number of 64 bits. After want of memory some of the others may
+    /// stand behind these.
+    pub fn append(&mut self, more: &FrozenRuns) -> Result<(), AllocError>
+        requires count { length self.old + length more.now < 2 ^ 64 }
+        ensures { OnOk result (self.new ≡ self.old ++ more.now) }
+    {
+        let _len = more.len();
+        for run in more.runs() {
+            self.push(run.len, &run.set)?;
+        }
+        Ok(())
+    }
 }

@@ -8,7 +8,7 @@ use Rattle.resin_request.specs.Under.meaning.Runs.{World}
 use Rattle.resin_request.specs.Under.meaning.Runs as runs
 use Rattle.resin_request.specs.declared.request.Finish.{Finish}
 use Rattle.resin_request.specs.declared.request.Finish.TheVariants as finish
-use Rattle.resin_site.specs.declared.outcome.End.TheVariants.{Served, NotFound, Uncaught, Fault, Keeper, NotYet}
+use Rattle.resin_site.specs.declared.outcome.End.TheVariants.{Served, NotFound, Uncaught, Fault, Keeper}
 use Rattle.resin_site.specs.declared.outcome.Outcome.{Outcome}
 use Rattle.resin_site.specs.Outcomes.{outcome}
 use Rattle.resin_site.specs.Serving.{EndLists}
@@ -30,7 +30,6 @@ ends r m path head_only o u w ne e b = subst (λ (x : Outcome). EndLists x.end w
     cases : (r : Result Finish Stop) → r ≢ Err Memory → runs.Blames r u w → EndLists (outcome path head_only r m).end w.calls.made u.calls.failed w.calls.failed
     cases (Ok finish.Answered) ne b = b.failed
     cases (Ok finish.Missing) ne b = b.failed
-    cases (Ok finish.NotYet) ne b = b.failed
     cases (Err (Thrown o)) ne b = b.failed
     cases (Err stop.Exit) ne b = b.failed
     cases (Err (stop.Fault f line)) ne b = b.failed

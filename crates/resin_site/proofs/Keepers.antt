@@ -1,12 +1,14 @@
 -- From what a program's run does to the keepers and the calls, to what the site says of them.
-use Rattle.std.proofs.Common.{◌≡◌, ◌≢◌, ℕ, ◌+◌, ◌<◌, ◌≤◌, ◌==◌, Bool, true, false, ◌||◌, List, [], ◌∷◌, ◌++◌, length, Option, Some, None, Result, Ok, Err, refl, sym, ap, ◌∙◌, arith, append_assoc, append-nil, subst, ◌⊎◌, inl, inr}
+use Rattle.std.proofs.Common.{◌≡◌, ◌≢◌, ℕ, ◌+◌, ◌<◌, ◌≤◌, ◌==◌, Bool, true, false, ◌||◌, List, [], ◌∷◌, ◌++◌, length, Option, Some, None, Result, Ok, Err, refl, sym, ap, ◌∙◌, arith, append_assoc, append-nil, ◌⊎◌, inl, inr}
 use Rattle.std.specs.Prelude.{All, ⊤}
 use Rattle.std.specs.List.{list_any}
+use Rattle.std.specs.Option.{option_map}
 use Rattle.std.proofs.lemmas.List.Folds.{list_any-append}
 use Rattle.std.proofs.lemmas.List.Elements.{All-head, All-tail, All-cons}
 use Rattle.resin_request.specs.Under.base.Causes.{is_listed, Counted, TellsMore}
 use Rattle.resin_request.specs.Under.base.FileStore.{FileStore}
 use Rattle.resin_request.specs.Under.base.TableStore.{TableStore}
+use Rattle.resin_request.specs.Under.store.Files.{LabelledFiles, lift_files, plain_files}
 use Rattle.resin_request.specs.Under.base.Numbering.{AreNumbered}
 use Rattle.resin_request.specs.Under.machine.declared.stop.Stop.{Stop}
 use Rattle.resin_request.specs.Under.machine.declared.stop.Stop.TheVariants.{Thrown, Exit, Fault, Keeper, Memory}
@@ -14,7 +16,8 @@ use Rattle.resin_request.specs.Under.meaning.Programs.{Prog}
 use Rattle.resin_request.specs.Under.meaning.Runs.{World, Goes, NoneFailed, LastFailed, Agrees, Does, done}
 use Rattle.resin_request.specs.Under.meaning.Runs as runs
 use Rattle.resin_request.proofs.meaning_lemmas.Composition.{numbered_after}
-use Rattle.resin_site.specs.Keeping.{Store, WhereTold, store_of, Later, Passes, Faults, faults, Blames, answers, Tells}
+use Rattle.resin_request.proofs.meaning_lemmas.OneCall.{kept_files}
+use Rattle.resin_site.specs.Keeping.{Store, WhereTold, TellsWhatIsHeld, store_of, Later, Passes, Faults, faults, Blames, answers, Tells}
 
 above_not : (made n k : ℕ) → made < k → n ≤ made → (k == n) ≡ false
 above_not made n k above below = grind arith
@@ -133,11 +136,32 @@ tells_none files tables made failed = record { made = omega arith; files = tells
 pub later_self : (made : ℕ) (failed : List ℕ) → Passes made failed made failed
 later_self made failed = λ K later. later
 
+some_none : {A : Type 0} (a : A) → Some a ≡ None → ⊥
+some_none a e = absurd (cc)
+
+some_is : {A : Type 0} (a b : A) → Some a ≡ Some b → a ≡ b
+some_is a b e = cc
+
+abbrev store : LabelledFiles → TableStore → Store
+store files tables = record { files = files; tables = tables }
+
 -- what both keepers hold, where they tell it
-pub where_stored : (x : Option FileStore) (y : Option TableStore) (P : Store → Type 0) → ((s : Store) → Some s.files ≡ x → Some s.tables ≡ y → P s) → WhereTold (store_of x y) P
+pub where_stored : (x : Option FileStore) (y : Option TableStore) (P : Store → Type 0) → ((s : Store) → Some s.files ≡ option_map lift_files x → Some s.tables ≡ y → P s) → WhereTold (store_of x y) P
 where_stored None y P f = tt
 where_stored (Some files) None P f = tt
-where_stored (Some files) (Some tables) P f = f (record { files = files; tables = tables }) refl refl
+where_stored (Some files) (Some tables) P f = f (store (lift_files files) tables) refl refl
 
-pub stored_as : (x : Option FileStore) (y : Option TableStore) (s : Store) → Some s.files ≡ x → Some s.tables ≡ y → store_of x y ≡ Some s
-stored_as x y s ex ey = subst (λ a. store_of a y ≡ Some s) ex (subst (λ b. store_of (Some s.files) b ≡ Some s) ey refl)
+pub stored_as : (x : Option FileStore) (y : Option TableStore) (s : Store) → Some s.files ≡ option_map lift_files x → Some s.tables ≡ y → store_of x y ≡ Some s
+stored_as None y s ex ey = absurd (some_none s.files ex)
+stored_as (Some files) None s ex ey = absurd (some_none s.tables ey)
+stored_as (Some files) (Some tables) s ex ey =
+    ap (λ (f : LabelledFiles). Some (store f tables)) (sym (some_is s.files (lift_files files) ex))
+    ∙ ap (λ (t : TableStore). Some (store s.files t)) (sym (some_is s.tables tables ey))
+
+-- the keepers hold what is plain of the store
+pub tells_what_is_held : TellsWhatIsHeld
+tells_what_is_held None tables s e = absurd (some_none s (sym e))
+tells_what_is_held (Some files) None s e = absurd (some_none s (sym e))
+tells_what_is_held (Some files) (Some tables) s e =
+    let same : store (lift_files files) tables ≡ s = some_is (store (lift_files files) tables) s e in
+    (ap Some (sym (kept_files files) ∙ ap (λ (u : Store). plain_files u.files) same), ap (λ (u : Store). Some u.tables) same)

@@ -1,6 +1,6 @@
 -- How outcomes and logs are made.
-use Rattle.std.proofs.Common.{◌≡◌, ℕ, ◌+◌, ◌≤◌, Bool, true, false, List, [], ◌∷◌, ◌++◌, length, drop, Result, Ok, Err, refl, sym, ap, ◌∙◌, append_assoc, append-nil, subst}
-use Rattle.std.specs.Prelude.{IfOk, OnOk, unwrap_or, if◌then◌else◌}
+use Rattle.std.proofs.Common.{◌≡◌, ℕ, ◌+◌, ◌≤◌, Bool, List, [], ◌∷◌, ◌++◌, length, drop, Result, Ok, Err, refl, sym, ap, ◌∙◌, append_assoc, append-nil, subst}
+use Rattle.std.specs.Prelude.{IfOk, OnOk, unwrap_or}
 use Rattle.resin_request.specs.Under.bytes.declared.header.Header.{Header}
 use Rattle.resin_request.specs.Under.http.Response.{response}
 use Rattle.resin_request.specs.Under.journal.declared.event.Event.{Event}
@@ -13,7 +13,7 @@ use Rattle.resin_request.proofs.meaning_lemmas.Composition.{nothing_left}
 use Rattle.resin_request.specs.declared.request.Finish.{Finish}
 use Rattle.resin_site.specs.declared.outcome.End.{End}
 use Rattle.resin_site.specs.declared.outcome.Outcome.{Outcome}
-use Rattle.resin_site.specs.Outcomes.{end_of, status_of, fixed_text, kind_at, is_unbuilt, unbuilt, with_parts, outcome}
+use Rattle.resin_site.specs.Outcomes.{end_of, status_of, fixed_text, kind_at, with_parts, outcome}
 
 -- one event more
 pub logged : (n : ℕ) (js : EventList) (i : ℕ) (e : Event) (text longer : List ℕ) → drop i js ≡ e ∷ drop (i + 1) js → longer ≡ text ++ unwrap_or (line_of n e) []
@@ -52,17 +52,10 @@ parts_are path head_only end s o e1 e2 e3 e4 e5 e6 e7 =
     ∙ ap (λ x. made end (status_of end s.status) s.headers (s.body ++ fixed_text end) (response (status_of end s.status) s.headers (kind_at end path) (s.body ++ fixed_text end) head_only) x o.journal) e6
     ∙ ap (λ x. made end (status_of end s.status) s.headers (s.body ++ fixed_text end) (response (status_of end s.status) s.headers (kind_at end path) (s.body ++ fixed_text end) head_only) s.mail x) e7
 
--- the outcome of what isn't built, and of any other end
-pub unbuilt_is : (path : List ℕ) (head_only : Bool) (finish : Result Finish Stop) (m : State) (end : End) (b : Bool) (o : Outcome) → end ≡ end_of finish m → b ≡ is_unbuilt end → b ≡ true
-    → o ≡ unbuilt → o ≡ outcome path head_only finish m
-unbuilt_is path head_only finish m end b o e t y u =
-    u ∙ sym (ap (λ x. if x then unbuilt else with_parts path head_only (end_of finish m) m.stage) (ap is_unbuilt (sym e) ∙ sym t ∙ y))
-
-pub parts_is : (path : List ℕ) (head_only : Bool) (finish : Result Finish Stop) (m : State) (end : End) (b : Bool) → end ≡ end_of finish m → b ≡ is_unbuilt end → b ≡ false
+-- the outcome by the end that the steps came to
+pub parts_is : (path : List ℕ) (head_only : Bool) (finish : Result Finish Stop) (m : State) (end : End) → end ≡ end_of finish m
     → with_parts path head_only end m.stage ≡ outcome path head_only finish m
-parts_is path head_only finish m end b e t n =
-    ap (λ x. with_parts path head_only x m.stage) e
-    ∙ sym (ap (λ x. if x then unbuilt else with_parts path head_only (end_of finish m) m.stage) (ap is_unbuilt (sym e) ∙ sym t ∙ n))
+parts_is path head_only finish m end e = ap (λ x. with_parts path head_only x m.stage) e
 
 pub if_ok_map : {A E : Type 0} (r : Result A E) (P Q : A → Type 0) → ((v : A) → P v → Q v) → IfOk r P → IfOk r Q
 if_ok_map (Ok v) P Q f h = f v h

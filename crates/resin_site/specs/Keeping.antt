@@ -6,6 +6,7 @@ use Rattle.resin_request.specs.Under.base.TableStore.{TableStore}
 use Rattle.resin_request.specs.Under.meaning.Programs.{KeeperCall}
 use Rattle.resin_request.specs.Under.meaning.Programs as programs
 use Rattle.resin_request.specs.Under.meaning.Runs.{failures}
+use Rattle.resin_request.specs.Under.store.Files.{lift_files, plain_files}
 
 -- what the keepers hold
 abbrev pub Store : Type 0
@@ -19,11 +20,17 @@ pub record St : Type 0 where
 abbrev pub state : Store → ℕ → St
 state store made = record { store = store; made = made }
 
--- both keepers tell what they hold
+-- both keepers tell what they hold; the shadow texts tell the policies of what the keeper of files holds
 abbrev pub store_of : Option FileStore → Option TableStore → Option Store
 store_of None tables = None
 store_of (Some files) None = None
-store_of (Some files) (Some tables) = Some (record { files = files; tables = tables })
+store_of (Some files) (Some tables) = Some (record { files = lift_files files; tables = tables })
+
+-- the keepers hold exactly what is plain of such a store
+abbrev pub TellsWhatIsHeld : Type 0
+TellsWhatIsHeld =
+    (files : Option FileStore) (tables : Option TableStore) (s : Store) → store_of files tables ≡ Some s
+    → (files ≡ Some (plain_files s.files)) × (tables ≡ Some s.tables)
 
 -- a fact of what the keepers hold, where it is told
 abbrev pub WhereTold : Option Store → (Store → Type 0) → Type 0

@@ -1,9 +1,9 @@
 -- The access law of an answer: data leaves only through checked writes, and the answer is what they sent (RESIN's claim, over this project's journal).
-use Rattle.std.specs.Prelude.{◌≡◌, ◌≢◌, ℕ, Bool, List, [], ◌++◌, decimal, ◌⊎◌, Option, Some, None}
+use Rattle.std.specs.Prelude.{◌≡◌, ℕ, Bool, List, [], ◌++◌, decimal, ◌⊎◌, Option, Some, None}
 use Rattle.resin_request.specs.Under.http.Response.{response}
 use Rattle.resin_request.specs.Under.journal.Access.{ObeysAccessLaw, ClassesAreNames}
 use Rattle.resin_request.specs.Under.stage.Ties.{sent_body, sent_mails, sent_headers, sent_lines, IsPartOf, IsOneOf}
-use Rattle.resin_site.specs.declared.outcome.End.TheVariants.{Served, NotYet}
+use Rattle.resin_site.specs.declared.outcome.End.TheVariants.{Served}
 use Rattle.resin_site.specs.declared.outcome.End.{End}
 use Rattle.resin_site.specs.declared.outcome.Outcome.{Outcome}
 use Rattle.resin_site.specs.Outcomes.{fixed_text, kind_at, refused, refusal_text}
@@ -19,8 +19,7 @@ pub record IsTextOfParts (o : Outcome) : Type 0 where
 
 -- The journal obeys the law of writes, and tells classes by names. The body is what was sent on `http`, and then the fixed text of the end. The mail is what was sent on
 -- `email`, in the request of this number. Each header was sent on `header`, and they stand in that order. Where the request was served, the status
--- is the first one, that of a `Location` header, or was sent. The response says this status, these headers and this body, and nothing else; only what
--- isn't built has no response.
+-- is the first one, that of a `Location` header, or was sent. The response says this status, these headers and this body, and nothing else.
 pub record IsLawful (request : ℕ) (o : Outcome) : Type 0 where
   pub writes : ObeysAccessLaw o.journal
   pub classes : ClassesAreNames o.journal
@@ -28,7 +27,7 @@ pub record IsLawful (request : ℕ) (o : Outcome) : Type 0 where
   pub mail : o.mail ≡ sent_mails request o.journal
   pub headers : IsPartOf o.headers (sent_headers o.journal)
   pub status : o.end ≡ Served → (o.status ≡ 200) ⊎ ((o.status ≡ 302) ⊎ IsOneOf (decimal o.status) (sent_lines o.journal))
-  pub response : o.end ≢ NotYet → IsTextOfParts o
+  pub response : IsTextOfParts o
 
 -- an outcome that this reply tells obeys the access law: all its parts are the reply's
 pub record TellsLawful (request : ℕ) (r : Reply) : Type 0 where

@@ -1,5 +1,5 @@
 -- The outcomes of requests, and the response of a refusal (this project).
-use Rattle.std.specs.Prelude.{ℕ, Bool, true, false, List, [], ◌++◌, codes, decimal, Result, Ok, Err, if◌then◌else◌}
+use Rattle.std.specs.Prelude.{ℕ, Bool, false, List, [], ◌++◌, codes, decimal, Result, Ok, Err}
 use Rattle.resin_request.specs.Under.http.Response.{response}
 use Rattle.resin_request.specs.Under.scalar.Faults.{fault_name}
 use Rattle.resin_request.specs.Under.stage.Stages.{Stage}
@@ -12,19 +12,18 @@ use Rattle.resin_request.specs.declared.request.Finish.{Finish}
 use Rattle.resin_request.specs.declared.request.Finish.TheVariants as finish
 use Rattle.resin_request.specs.Paths.{kind_of, plain_kind}
 use Rattle.resin_site.specs.declared.outcome.End.{End}
-use Rattle.resin_site.specs.declared.outcome.End.TheVariants.{Served, NotFound, Uncaught, Fault, Keeper, NotYet}
+use Rattle.resin_site.specs.declared.outcome.End.TheVariants.{Served, NotFound, Uncaught, Fault, Keeper}
 use Rattle.resin_site.specs.declared.outcome.Outcome.{Outcome}
 
 -- how a request ends, by how its steps came to their end and the state that they left; no meaning ends by `exit` or for want of memory
 abbrev pub end_of : Result Finish Stop → State → End
 end_of (Ok finish.Answered) m = Served
 end_of (Ok finish.Missing) m = NotFound
-end_of (Ok finish.NotYet) m = NotYet
 end_of (Err (Thrown o)) m = Uncaught (class_name_of o m)
 end_of (Err stop.Exit) m = Served
 end_of (Err (stop.Fault f line)) m = Fault f line
 end_of (Err stop.Keeper) m = Keeper
-end_of (Err Memory) m = NotYet
+end_of (Err Memory) m = Served
 
 -- the status of a request that ends so, whose scripts set this one
 abbrev pub status_of : End → ℕ → ℕ
@@ -33,7 +32,6 @@ status_of NotFound own = 404
 status_of (Uncaught class) own = 500
 status_of (Fault f line) own = 500
 status_of Keeper own = 503
-status_of NotYet own = 0
 
 -- the text that the end puts behind the body
 abbrev pub fixed_text : End → List ℕ
@@ -42,7 +40,6 @@ fixed_text NotFound = codes "Not found\n"
 fixed_text (Uncaught class) = codes "Uncaught " ++ class ++ codes "\n"
 fixed_text (Fault f line) = codes "Script fault " ++ fault_name f ++ codes " at line " ++ decimal line ++ codes "\n"
 fixed_text Keeper = codes "Keeper fault\n"
-fixed_text NotYet = []
 
 -- the type of the answer for a path, where no header tells it
 abbrev pub kind_at : End → List ℕ → List ℕ
@@ -51,7 +48,6 @@ kind_at Served path = kind_of path
 kind_at (Uncaught class) path = kind_of path
 kind_at (Fault f line) path = kind_of path
 kind_at Keeper path = kind_of path
-kind_at NotYet path = kind_of path
 
 -- the outcome of a request that ends so, with what left: the body that went out and the fixed text, and the response that is made of the parts
 abbrev pub with_parts : List ℕ → Bool → End → Stage → Outcome
@@ -65,25 +61,9 @@ with_parts path head_only end s = record {
   journal = s.journal;
 }
 
--- what isn't built gives nothing
-abbrev pub unbuilt : Outcome
-unbuilt = record { end = NotYet; status = 0; headers = []; body = []; response = []; mail = []; journal = [] }
-
--- the end is that of what isn't built
-abbrev pub is_unbuilt : End → Bool
-is_unbuilt Served = false
-is_unbuilt NotFound = false
-is_unbuilt (Uncaught class) = false
-is_unbuilt (Fault f line) = false
-is_unbuilt Keeper = false
-is_unbuilt NotYet = true
-
-abbrev pub outcome_of : List ℕ → Bool → End → Stage → Outcome
-outcome_of path head_only end s = if is_unbuilt end then unbuilt else with_parts path head_only end s
-
 -- the outcome of a request for a path, by how its steps came to their end and the state that they left
 abbrev pub outcome : List ℕ → Bool → Result Finish Stop → State → Outcome
-outcome path head_only end m = outcome_of path head_only (end_of end m) m.stage
+outcome path head_only end m = with_parts path head_only (end_of end m) m.stage
 
 -- the body of a refusal
 abbrev pub refused : ℕ → List ℕ

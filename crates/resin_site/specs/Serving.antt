@@ -5,7 +5,7 @@ use Rattle.resin_request.specs.Under.http.declared.request.Request.{Request}
 use Rattle.resin_request.specs.Under.meaning.Programs.{KeeperCall, Moment}
 use Rattle.resin_request.specs.Under.meaning.Runs.{Reached}
 use Rattle.resin_site.specs.declared.outcome.End.{End}
-use Rattle.resin_site.specs.declared.outcome.End.TheVariants.{Served as Done, NotFound, Uncaught, Fault, Keeper, NotYet}
+use Rattle.resin_site.specs.declared.outcome.End.TheVariants.{Served as Done, NotFound, Uncaught, Fault, Keeper}
 use Rattle.resin_site.specs.declared.outcome.Outcome.{Outcome}
 use Rattle.resin_site.specs.Keeping.{Store, WhereTold}
 use Rattle.resin_site.specs.Replies.{Reply, request}
@@ -51,7 +51,6 @@ EndLists NotFound made failed failed' = failed' ≡ failed
 EndLists (Uncaught class) made failed failed' = failed' ≡ failed
 EndLists (Fault f line) made failed failed' = failed' ≡ failed
 EndLists Keeper made failed failed' = failed' ≡ failed ++ made ∷ []
-EndLists NotYet made failed failed' = failed' ≡ failed
 
 abbrev pub Ends : Result Outcome AllocError → ℕ → List ℕ → List ℕ → Type 0
 Ends (Ok o) made failed failed' = EndLists o.end made failed failed'

@@ -5,3 +5,4 @@ pub use Rattle.resin_request.specs.Under.journal
 pub use Rattle.resin_request.specs.Under.label
 pub use Rattle.resin_request.specs.Under.lstr
 pub use Rattle.resin_request.specs.Under.meaning
+pub use Rattle.resin_request.specs.Under.store

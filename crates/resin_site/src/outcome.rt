@@ -7,7 +7,7 @@ ghost use Rattle.resin_request.specs.Under.stage.Stages.{Stage as TheStage};
 ghost use Rattle.resin_site.specs.declared.outcome.End.TheVariants as ends;
 ghost use Rattle.resin_request.specs.Under.machine.Keeping.{Tied};
 ghost use Rattle.resin_site.specs.Laws.{IsLawful};
-ghost use Rattle.resin_site.specs.Outcomes.{end_of, status_of, fixed_text, kind_at, is_unbuilt, outcome, with_parts, unbuilt, refused, refusal_text};
+ghost use Rattle.resin_site.specs.Outcomes.{end_of, status_of, fixed_text, kind_at, outcome, with_parts, refused, refusal_text};
 
 use itoa::Buffer;
 use resin_request::under::base::Bytes;
@@ -31,8 +31,6 @@ pub enum End {
     Fault(ScriptFault, u32),
     /// A keeper call failed.
     Keeper,
-    /// The request met what isn't built; its answer has no parts.
-    NotYet,
 }
 
 /// What a request gives.
@@ -60,7 +58,6 @@ fn end_of(alloc: Global, finish: Result<Finish, Stop>, m: &Machine) -> Result<En
     match finish {
         Ok(Finish::Answered) => Ok(End::Served),
         Ok(Finish::Missing) => Ok(End::NotFound),
-        Ok(Finish::NotYet) => Ok(End::NotYet),
         Err(Stop::Thrown(o)) => Ok(End::Uncaught(Bytes::from_slice(alloc, m.name_of(o))?)),
         Err(Stop::Exit) => Ok(End::Served),
         Err(Stop::Fault(fault, line)) => Ok(End::Fault(fault, line)),
@@ -78,7 +75,6 @@ fn status_of(end: &End, own: u16) -> u16
         End::NotFound => 404,
         End::Uncaught(_) | End::Fault(_, _) => 500,
         End::Keeper => 503,
-        End::NotYet => 0,
     }
 }
 
@@ -122,7 +118,7 @@ fn push_fixed(body: &mut Bytes, end: &End) -> Result<(), AllocError>
     ensures { OnOk result (body.new ≡ body.old ++ fixed_text end.now) }
 {
     match end {
-        End::Served | End::NotYet => Ok(()),
+        End::Served => Ok(()),
         End::NotFound => body.push_slice(b"Not found\n"),
         End::Uncaught(class) => push_uncaught(body, class),
         End::Fault(fault, line) => push_fault(body, *fault, *line),
@@ -136,9 +132,7 @@ fn kind_at(end: &End, path: &[u8]) -> &'static [u8]
 {
     match end {
         End::NotFound => PLAIN_KIND,
-        End::Served | End::Uncaught(_) | End::Fault(_, _) | End::Keeper | End::NotYet => {
-            kind_of(path)
-        }
+        End::Served | End::Uncaught(_) | End::Fault(_, _) | End::Keeper => kind_of(path),
     }
 }
 
@@ -176,31 +170,6 @@ fn with_parts(
     })
 }
 
-// Whether the end is that of what isn't built.
-fn is_unbuilt(end: &End) -> bool
-    ensures { result ≡ is_unbuilt end.now }
-{
-    match end {
-        End::NotYet => true,
-        End::Served | End::NotFound | End::Uncaught(_) | End::Fault(_, _) | End::Keeper => false,
-    }
-}
-
-// The outcome of what isn't built.
-fn unbuilt(alloc: Global) -> Outcome
-    ensures { result ≡ unbuilt }
-{
-    Outcome {
-        end: End::NotYet,
-        status: 0,
-        headers: HeaderList::new(alloc),
-        body: Bytes::new(alloc),
-        response: Bytes::new(alloc),
-        mail: Bytes::new(alloc),
-        journal: Journal::new(alloc),
-    }
-}
-
 /// The outcome of a request for a path, by how its steps came to their end and the machine that they left. `Err` for want of memory alone, which
 /// may have been the end of the steps.
 pub(crate) fn outcome_for(
@@ -215,9 +184,6 @@ pub(crate) fn outcome_for(
     ensures lawful { Tied m → IfOk result (λ o. IsLawful m.request o) }
 {
     let end = end_of(alloc, finish, &m)?;
-    if is_unbuilt(&end) {
-        return Ok(unbuilt(alloc));
-    }
     with_parts(alloc, path, head_only, end, m.finish())
 }
 

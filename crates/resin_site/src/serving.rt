@@ -16,11 +16,10 @@ use resin_request::{path_of, run_request};
 use std::alloc::{AllocError, Global};
 
 /// Serves one request; `number` is its number in its mail and its log. The runtime reads the file that the target asks for, runs `boot.php`, sets
-/// the inputs, and runs the file where it is a script, or sends it.
+/// the inputs behind their filters, and runs the file where it is a script, or sends it.
 ///
 /// The end is `Served` with the status that the scripts set, which is 200 at first; `NotFound` with 404 where the path isn't open to requests or
-/// names no file; `Uncaught` and `Fault` with 500; `Keeper` with 503 exactly where the last keeper call failed; and `NotYet` where the request
-/// meets what isn't built. What was sent before an end stays, and the end's text comes behind it. A HEAD request's response leaves the body out.
+/// names no file; `Uncaught` and `Fault` with 500; and `Keeper` with 503 exactly where the last keeper call failed. What was sent before an end stays, and the end's text comes behind it. A HEAD request's response leaves the body out.
 ///
 /// After want of memory the keepers and `calls` stand as at one of the moments of the request.
 pub fn serve_one<F: Files, T: Tables>(

@@ -4,7 +4,7 @@
 //! empty one, and the body. A request is served when it is met, so that files behind it aren't there yet.
 //!
 //! A line is printed for each request: how it ended, its status, its keeper calls with the numbers of those that failed, the bytes of its response and the response, the denials,
-//! and the mail, where there are any; no status where the request met what isn't built; and for a request that is refused the status and the response. A line that begins with `# ` is a heading and is printed as it is.
+//! and the mail, where there are any; and for a request that is refused the status and the response. A line that begins with `# ` is a heading and is printed as it is.
 //!
 //! The input, and the output, which was worked out by hand from the formats of requests and responses, are the table of the tests of a site.
 #![tactic(auto)]
@@ -71,7 +71,6 @@ fn shown_end(end: &End) -> &'static str {
         End::Uncaught(_) => "uncaught",
         End::Fault(_, _) => "fault",
         End::Keeper => "keeper",
-        End::NotYet => "not yet",
     }
 }
 
@@ -87,10 +86,8 @@ fn push_calls(out: &mut String, calls: &Calls) -> Result<(), AllocError> {
 
 fn shown(alloc: Global, number: u64, o: &Outcome, calls: &Calls) -> Result<String, AllocError> {
     let mut out = String::from_str(alloc, shown_end(&o.end))?;
-    if !matches!(&o.end, End::NotYet) {
-        let status = o.status;
-        write!(out, " | {status}")?;
-    }
+    let status = o.status;
+    write!(out, " | {status}")?;
     push_calls(&mut out, calls)?;
     let count = o.response.as_slice().len();
     write!(out, " | {count} bytes")?;

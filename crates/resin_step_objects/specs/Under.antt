@@ -14,6 +14,7 @@ pub use Rattle.resin_step_parts.specs.Under.scalar
 pub use Rattle.resin_step_parts.specs.Under.scope
 pub use Rattle.resin_step_parts.specs.Under.stage
 pub use Rattle.resin_step_parts.specs as step_parts
+pub use Rattle.resin_step_parts.specs.Under.store
 pub use Rattle.resin_step_parts.specs.Under.target
 pub use Rattle.resin_tree.specs as tree
 pub use Rattle.resin_step_parts.specs.Under.value

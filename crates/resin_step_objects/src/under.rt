@@ -9,6 +9,6 @@ pub mod step_parts {
 
 pub use resin_step_parts::under::{
     base, bytes, heap, items, journal, label, lstr, machine, meaning, meaning_forms, ops, scalar,
-    target, value,
+    store, target, value,
 };
 pub use resin_tree as tree;

@@ -2,7 +2,7 @@
 use Rattle.std.proofs.Common.{◌≡◌, ℕ, ◌+◌, ◌-◌, ◌≤◌, length, Bool, true, false, cond, nat_le, nat_lt, Result, Ok, Err, refl, sym, ap, subst, ◌∙◌, arith}
 use Rattle.std.specs.Prelude.{IfOk}
 use Rattle.std.proofs.lemmas.Bool.Decides.{nat_tests}
-use Rattle.resin_meaning_forms.specs.Under.base.FileStore.{FileStore}
+use Rattle.resin_meaning_forms.specs.Under.store.Files.{LabelledFiles}
 use Rattle.resin_meaning_forms.specs.Under.base.TableStore.{TableStore}
 use Rattle.resin_meaning_forms.specs.Under.base.declared.calls.Calls.{Calls}
 use Rattle.resin_meaning_forms.specs.Under.scalar.Stops.{Gives}
@@ -31,16 +31,16 @@ gives_or (Err CallMemory) rule h = tt
 
 -- what a computation answered, once it is settled
 pub does_computed : {A : Type 0} (given rule : Result A CallStop) {m m' : State} {r : Result A Stop} → GivesOrNoMemory given rule → ActsLoosely (settled given) m r m'
-    → (f : Seen FileStore) (t : Seen TableStore) (k : Calls) → Does (computed rule) (world m f t k) r (world m' f t k)
+    → (f : Seen LabelledFiles) (t : Seen TableStore) (k : Calls) → Does (computed rule) (world m f t k) r (world m' f t k)
 does_computed given rule {m = m} {m' = m'} {r = r} g h f t k = does_loosely (settled rule) f t k (answered_step (settled rule) rule given m r m' g refl h)
 
 -- the same of an answer that is the rule's
 pub does_settled : {A : Type 0} (given rule : Result A CallStop) {m m' : State} {r : Result A Stop} → given ≡ rule → ActsLoosely (settled given) m r m'
-    → (f : Seen FileStore) (t : Seen TableStore) (k : Calls) → Does (computed rule) (world m f t k) r (world m' f t k)
+    → (f : Seen LabelledFiles) (t : Seen TableStore) (k : Calls) → Does (computed rule) (world m f t k) r (world m' f t k)
 does_settled {A = A} given rule {m = m} {m' = m'} {r = r} e h f t k = does_loosely (settled rule) f t k (subst (λ (x : Result A CallStop). ActsLoosely (settled x) m r m') e h)
 
 -- what is read off the state
-pub does_looked : {A : Type 0} (read : State → A) (v : A) (m : State) → v ≡ read m → (f : Seen FileStore) (t : Seen TableStore) (k : Calls) → Does (looked read) (world m f t k) (Ok v) (world m f t k)
+pub does_looked : {A : Type 0} (read : State → A) (v : A) (m : State) → v ≡ read m → (f : Seen LabelledFiles) (t : Seen TableStore) (k : Calls) → Does (looked read) (world m f t k) (Ok v) (world m f t k)
 does_looked {A = A} read v m e f t k =
     does_act (λ s. (Ok (read s), s)) f t k (record {
       acted = (λ i. (Ok (sym e i), m));
@@ -139,7 +139,7 @@ charged_then answer left n m m1 r m2 le is a h = record {
 
 -- a comparison, by its answer and the ticks that it left
 pub does_with_ticks : (compare : ℕ → Result Bool CallStop × ℕ) (m m' : State) (r : Result Bool Stop) (answer : Result Bool CallStop) (left : ℕ) → answer ≡ (compare m.ticks).0 → left ≡ (compare m.ticks).1
-    → ActsLoosely (λ s. settled answer (record s { ticks = left })) m r m' → (f : Seen FileStore) (t : Seen TableStore) (k : Calls) → Does (act (with_ticks compare)) (world m f t k) r (world m' f t k)
+    → ActsLoosely (λ s. settled answer (record s { ticks = left })) m r m' → (f : Seen LabelledFiles) (t : Seen TableStore) (k : Calls) → Does (act (with_ticks compare)) (world m f t k) r (world m' f t k)
 does_with_ticks compare m m' r answer left e l h f t k =
     does_loosely (with_ticks compare) f t k (as_step (with_ticks compare) (λ s. settled answer (record s { ticks = left })) m r m' (λ i. settled (sym e i) (record m { ticks = sym l i })) h)
 

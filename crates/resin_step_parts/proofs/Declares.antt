@@ -12,7 +12,7 @@ use Rattle.resin_meaning_forms.proofs.meaning_lemmas.Composition.{does_act}
 use Rattle.resin_meaning_forms.specs.Runs.{Runs}
 use Rattle.resin_meaning_forms.specs.Parts.{faulted}
 use Rattle.resin_meaning_forms.specs.Names.{is_taken}
-use Rattle.resin_meaning_forms.specs.Programs.{declare_new}
+use Rattle.resin_meaning_forms.specs.Sources.{declare_new}
 use Rattle.resin_step_parts.proofs.Steps.{does_faulted, runs_as}
 use Rattle.std.proofs.Common.{cond}
 

@@ -1,7 +1,7 @@
 -- What a call by name reaches.
 use Rattle.std.proofs.Common.{◌≡◌, ℕ, List, Option, Some, None, Result, Ok, Err, refl, sym, ap, subst, arith}
 use Rattle.std.specs.Option.{option_map}
-use Rattle.resin_meaning_forms.specs.Under.base.FileStore.{FileStore}
+use Rattle.resin_meaning_forms.specs.Under.store.Files.{LabelledFiles}
 use Rattle.resin_meaning_forms.specs.Under.base.TableStore.{TableStore}
 use Rattle.resin_meaning_forms.specs.Under.base.declared.calls.Calls.{Calls}
 use Rattle.resin_meaning_forms.specs.Under.scalar.declared.faults.ScriptFault.TheVariants.{UndefinedFunction}
@@ -53,7 +53,7 @@ called_own name callee e = by (state_named name) (channel_named name) (builtin_n
     by None None (Some b) p h = subst (IsCalled name) (same_callee (Builtin b) callee h) p
     by None None None p h = absurd (no_callee callee h)
 
-pub found_own : (name : List ℕ) (m : State) (callee : Callee) → own_named name ≡ Some callee → (f : Seen FileStore) (t : Seen TableStore) (k : Calls) → Does (find_callee name) (world m f t k) (Ok callee) (world m f t k)
+pub found_own : (name : List ℕ) (m : State) (callee : Callee) → own_named name ≡ Some callee → (f : Seen LabelledFiles) (t : Seen TableStore) (k : Calls) → Does (find_callee name) (world m f t k) (Ok callee) (world m f t k)
 found_own name m callee e f t k =
     does_next (looked (callee_named name)) or_unknown
     (does_looked (callee_named name) (Some callee) m (λ i. or_else (sym e i) (option_map Script (function_named name m))) f t k)
@@ -72,7 +72,7 @@ same_function g h e = cc
 no_function : (s : Stop) (g : Function) → ◌≡◌ {A = Result Function Stop} (Err s) (Ok g) → ⊥
 no_function s g e = cc
 
-pub found_script : (name : List ℕ) (m : State) (g : Function) → own_named name ≡ None → Acts (find_function name) m (Ok g) m → (f : Seen FileStore) (t : Seen TableStore) (k : Calls) → Does (find_callee name) (world m f t k) (Ok (Script g)) (world m f t k)
+pub found_script : (name : List ℕ) (m : State) (g : Function) → own_named name ≡ None → Acts (find_function name) m (Ok g) m → (f : Seen LabelledFiles) (t : Seen TableStore) (k : Calls) → Does (find_callee name) (world m f t k) (Ok (Script g)) (world m f t k)
 found_script name m g e a f t k =
     does_next (looked (callee_named name)) or_unknown
     (does_looked (callee_named name) (Some (Script g)) m (script_is name m (Some g) e (there (function_named name m) a.acted)) f t k)
@@ -86,7 +86,7 @@ abbrev recast : Result Function Stop → Result Callee Stop
 recast (Ok g) = Ok (Script g)
 recast (Err s) = Err s
 
-pub found_none : (name : List ℕ) (m : State) (s : Stop) → own_named name ≡ None → Acts (find_function name) m (Err s) m → (f : Seen FileStore) (t : Seen TableStore) (k : Calls) → Does (find_callee name) (world m f t k) (Err s) (world m f t k)
+pub found_none : (name : List ℕ) (m : State) (s : Stop) → own_named name ≡ None → Acts (find_function name) m (Err s) m → (f : Seen LabelledFiles) (t : Seen TableStore) (k : Calls) → Does (find_callee name) (world m f t k) (Err s) (world m f t k)
 found_none name m s e a f t k = by (function_named name m) refl a.acted
   where
     none : (s : Stop) → Acted {A = Function} (faults UndefinedFunction) m (Err s) m → Acted {A = Callee} (faults UndefinedFunction) m (Err s) m

@@ -2,7 +2,7 @@
 use Rattle.std.proofs.Common.{◌≡◌, [], length, Bool, true, false, cond, Result, Ok, Err, inl, IsErrAnd, refl, sym, ap, subst, ◌∙◌, arith}
 use Rattle.std.proofs.lemmas.Result.{err_from_is_err_and}
 use Rattle.std.specs.Prelude.{nat_lt}
-use Rattle.resin_meaning_forms.specs.Under.base.FileStore.{FileStore}
+use Rattle.resin_meaning_forms.specs.Under.store.Files.{LabelledFiles}
 use Rattle.resin_meaning_forms.specs.Under.base.TableStore.{TableStore}
 use Rattle.resin_meaning_forms.specs.Under.base.declared.calls.Calls.{Calls}
 use Rattle.resin_meaning_forms.specs.Under.scalar.declared.faults.CallStop.{CallStop}
@@ -73,7 +73,7 @@ seen_as_mapped (Err stop) = refl
 
 -- a value that a rule gives as a tree, once it is settled
 pub does_computed_tree : (given : Result Value CallStop) (rule : Result Tree CallStop) {m m' : State} {r : Result Value Stop} → GivesOrNoMemory (seen_answer given) rule → ActsLoosely (settled given) m r m'
-    → (f : Seen FileStore) (t : Seen TableStore) (k : Calls) → Does (computed rule) (world m f t k) (on_ok tree_of r) (world m' f t k)
+    → (f : Seen LabelledFiles) (t : Seen TableStore) (k : Calls) → Does (computed rule) (world m f t k) (on_ok tree_of r) (world m' f t k)
 does_computed_tree given rule {m = m} {m' = m'} {r = r} g h =
     does_computed (seen_answer given) rule g (seen_step tree_of (settled given) (settled (seen_answer given)) m r m' (ap (λ x. settled x m) (seen_as_mapped given) ∙ settled_seen tree_of given m) h)
 
@@ -85,7 +85,7 @@ does_seen p f (Err s) d = does_stop p (λ x. give (f x)) d
 -- ---- faults
 
 -- a script fault at the running line
-pub does_faulted : {A : Type 0} (fault : ScriptFault) (m : State) (s : Stop) → s ≡ Fault fault m.line → (f : Seen FileStore) (t : Seen TableStore) (k : Calls) → Does (faulted {A = A} fault) (world m f t k) (Err s) (world m f t k)
+pub does_faulted : {A : Type 0} (fault : ScriptFault) (m : State) (s : Stop) → s ≡ Fault fault m.line → (f : Seen LabelledFiles) (t : Seen TableStore) (k : Calls) → Does (faulted {A = A} fault) (world m f t k) (Err s) (world m f t k)
 does_faulted {A = A} fault m s e f t k = rw e (does_act (faults {A = A} fault) f t k (record { acted = refl; ticks = omega arith; keeps = keeps_same m; ties = λ ne h. h }))
 
 -- another program that is the same
@@ -114,7 +114,7 @@ does_handed p r h d = let e = err_from_is_err_and r h in rw (e.1, e.2) d
 
 -- so far p went from m to m', and q is left of it, whatever the keepers are
 abbrev pub Leaves : {A : Type 0} → Prog A → State → Prog A → State → Type 0
-Leaves p m q m' = (f : Seen FileStore) (t : Seen TableStore) (k : Calls) → Leads p (world m f t k) q (world m' f t k)
+Leaves p m q m' = (f : Seen LabelledFiles) (t : Seen TableStore) (k : Calls) → Leads p (world m f t k) q (world m' f t k)
 
 pub leaves_here : {A : Type 0} (p : Prog A) (m : State) → Leaves p m p m
 leaves_here p m f t k = leads_here p (world m f t k)

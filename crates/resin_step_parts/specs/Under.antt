@@ -14,6 +14,7 @@ pub use Rattle.resin_meaning_forms.specs.Under.ops
 pub use Rattle.resin_meaning_forms.specs.Under.scalar
 pub use Rattle.resin_meaning_forms.specs.Under.scope
 pub use Rattle.resin_meaning_forms.specs.Under.stage
+pub use Rattle.resin_meaning_forms.specs.Under.store
 pub use Rattle.resin_meaning_forms.specs.Under.target
 pub use Rattle.resin_meaning_forms.specs.Under.text_fn
 pub use Rattle.resin_meaning_forms.specs.Under.tree

@@ -1,5 +1,5 @@
 //! Declarations of a file.
-ghost use Rattle.resin_meaning_forms.specs.Programs.{declare, declare_all, declare_new};
+ghost use Rattle.resin_meaning_forms.specs.Sources.{declare, declare_all, declare_new};
 ghost use Rattle.resin_meaning_forms.specs.Runs.{Runs};
 
 use crate::names::own_named;

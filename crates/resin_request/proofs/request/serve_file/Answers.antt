@@ -1,16 +1,9 @@
-use Rattle.std.proofs.Common.{false}
-use Rattle.resin_interp.proofs.meaning_lemmas.Composition.{does_next, does_exit, does_give}
-use Rattle.resin_interp.proofs.eval_nested_lemmas.Arms.{does_yes, does_no}
+use Rattle.std.proofs.Common.{sym, ◌∙◌}
+use Rattle.resin_interp.proofs.eval_nested_lemmas.Arms.{does_no, does_yes}
 use Rattle.resin_request.proofs.request.serve_file.Goals as goal
 
-pub returns-in_err-built : goal.returns-in_err-built
-returns-in_err-built g c = does_exit _ _ _ c.from_residual.ensures.1 (c.in_err-built.ensures.does _ _ _)
+pub returns-then-is_script : goal.returns-then-is_script
+returns-then-is_script g c = does_yes _ _ _ (sym c.is_script.ensures ∙ c.if-is_script.true) c.run_script.ensures
 
-pub returns-then-not-built : goal.returns-then-not-built
-returns-then-not-built g c = does_next _ _ (c.in_ok-built.ensures.does _ _ _) (does_no _ _ _ c.if-not-built.true (does_give false _))
-
-pub serve_text-requires : goal.serve_text-requires
-serve_text-requires g c = rw c.as_slice.ensures (c.in_ok-built.ensures.short c.if-not-built.false)
-
-pub returns : goal.returns
-returns g c = does_next _ _ (c.in_ok-built.ensures.does _ _ _) (does_yes _ _ _ c.if-not-built.false (rw c.as_slice.ensures at c.serve_text.ensures))
+pub returns-else-is_script : goal.returns-else-is_script
+returns-else-is_script g c = does_no _ _ _ (sym c.is_script.ensures ∙ c.if-is_script.false) c.send_file.ensures

@@ -1,6 +1,6 @@
 use Rattle.std.proofs.Common.{refl, ap, arith, ◌∙◌, length, ◌<◌, length-append}
 use Rattle.resin_trace.proofs.Existing.{some_word}
-use Rattle.resin_serve.specs.declared.give.Given.TheVariants.{Fault, Memory, NotYet}
+use Rattle.resin_serve.specs.declared.give.Given.TheVariants.{Fault, Memory}
 use Rattle.resin_serve.specs.Asked.{served}
 use Rattle.resin_serve.proofs.Ready_runs.{begin_on, goes_on, stops_at}
 use Rattle.resin_serve.proofs.Keeping.{kept_none, kept_then, passes}
@@ -31,17 +31,6 @@ returns-in-Memory-clause-cause g c = caused_then Memory _ _ _ c.records.invarian
 
 pub returns-in-Memory-clause-kept : goal.returns-in-Memory-clause-kept
 returns-in-Memory-clause-kept g c = kept_then _ _ _ c.records.invariant.kept c.in-Memory.ensures.kept
-
-pub returns-in-NotYet-clause-went : goal.returns-in-NotYet-clause-went
-returns-in-NotYet-clause-went g c = λ seen b hold f.
-    let h = rw c.in-Ok-Some.field-0-is at c.in-Ok-Some.ensures in
-    record { on = goes_on _ _ _ b seen _ _ _ _ _ _ _ _ _ _ _ _ _ _ _ _ (c.records.invariant.so_far seen b hold f) h (passes _ _ c.in-NotYet.ensures.kept) (ap served c.records.invariant.service) c.in-NotYet.ensures.ran; stands = tt }
-
-pub returns-in-NotYet-clause-cause : goal.returns-in-NotYet-clause-cause
-returns-in-NotYet-clause-cause g c = caused_then NotYet _ _ _ c.records.invariant.cause c.in-NotYet.ensures.cause
-
-pub returns-in-NotYet-clause-kept : goal.returns-in-NotYet-clause-kept
-returns-in-NotYet-clause-kept g c = kept_then _ _ _ c.records.invariant.kept c.in-NotYet.ensures.kept
 
 pub returns-in-Err-Memory-clause-went : goal.returns-in-Err-Memory-clause-went
 returns-in-Err-Memory-clause-went g c = λ seen b hold f.

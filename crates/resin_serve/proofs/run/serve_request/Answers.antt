@@ -4,7 +4,7 @@ use Rattle.resin_site.specs.Keeping.{Later, answers, store_of}
 use Rattle.resin_serve.specs.Ran.{world}
 use Rattle.resin_serve.specs.Kept.{Kept, keepers}
 use Rattle.resin_site.specs.Under.base.Numbering.{AreNumbered}
-use Rattle.resin_serve.proofs.Runs.{ran_amid, ran_met, ran_gave}
+use Rattle.resin_serve.proofs.Runs.{ran_amid, ran_gave}
 use Rattle.resin_serve.proofs.Request_kept.{request_kept}
 use Rattle.resin_serve.proofs.run.serve_request.Goals as goal
 
@@ -15,14 +15,6 @@ returns-in_default-clause-kept g c =
 
 pub returns-in_default-clause-ran : goal.returns-in_default-clause-ran
 returns-in_default-clause-ran g c = λ place K k. ran_amid _ _ K _ _ _ place _ c.in_default.field-0 _ _ refl refl refl (c.in_default.ensures.served K k) k
-
-pub returns-in-NotYet-clause-kept : goal.returns-in-NotYet-clause-kept
-returns-in-NotYet-clause-kept g c =
-    let e = c.serve_one-served.ensures in
-    request_kept _ _ _ _ _ _ _ _ _ _ _ _ c.requires e.blames e.counted e.told
-
-pub returns-in-NotYet-clause-ran : goal.returns-in-NotYet-clause-ran
-returns-in-NotYet-clause-ran g c = λ place K k. ran_met _ _ K _ _ _ place _ c.in-Ok.outcome _ _ refl refl refl c.in-NotYet.is (c.in-Ok.ensures.served K k) k
 
 pub returns : goal.returns
 returns g c =

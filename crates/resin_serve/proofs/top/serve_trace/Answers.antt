@@ -1,6 +1,6 @@
 use Rattle.std.proofs.Common.{refl, ap, arith, ◌∙◌, length-take}
 use Rattle.resin_serve.specs.Asked.{served}
-use Rattle.resin_serve.proofs.Serve_runs.{begin_run, join_at, ends_bad, ends_long, ends_fault, ends_memory, ends_unbuilt, ends_read, ends_trace, ends_full, fed_run, falls_fed}
+use Rattle.resin_serve.proofs.Serve_runs.{begin_run, join_at, ends_bad, ends_long, ends_fault, ends_memory, ends_read, ends_trace, ends_full, fed_run, falls_fed}
 use Rattle.resin_serve.proofs.Ends.{ends_run}
 use Rattle.resin_serve.proofs.Keeping.{kept_none, kept_then, passes}
 use Rattle.resin_serve.proofs.top.serve_trace.Goals as goal
@@ -39,12 +39,6 @@ returns-in-Memory-clause-kept g c = kept_then _ _ _ c.reads.invariant.kept c.in-
 
 pub returns-in-Memory-clause-ran : goal.returns-in-Memory-clause-ran
 returns-in-Memory-clause-ran g c = let j = join_at _ _ _ _ _ _ _ _ _ _ _ _ _ _ _ _ _ _ c.reads.invariant.so_far (passes _ _ c.in-Memory.ensures.kept) (ap served c.reads.invariant.service) c.in-Memory.ensures.went in ends_memory _ _ _ _ _ _ _ _ _ _ _ j.0
-
-pub returns-in-NotYet-clause-kept : goal.returns-in-NotYet-clause-kept
-returns-in-NotYet-clause-kept g c = kept_then _ _ _ c.reads.invariant.kept c.in-NotYet.ensures.kept
-
-pub returns-in-NotYet-clause-ran : goal.returns-in-NotYet-clause-ran
-returns-in-NotYet-clause-ran g c = let j = join_at _ _ _ _ _ _ _ _ _ _ _ _ _ _ _ _ _ _ c.reads.invariant.so_far (passes _ _ c.in-NotYet.ensures.kept) (ap served c.reads.invariant.service) c.in-NotYet.ensures.went in ends_unbuilt _ _ _ _ _ _ _ _ _ _ _ j.0
 
 pub returns-in-Err-clause-kept : goal.returns-in-Err-clause-kept
 returns-in-Err-clause-kept g c = kept_then _ _ _ c.reads.invariant.kept c.in-Wait.ensures.kept

@@ -8,7 +8,7 @@ use Rattle.resin_request.specs.Paths.{path_of}
 use Rattle.resin_site.specs.Outcomes.{outcome}
 use Rattle.resin_site.specs.Replies.{is_head}
 use Rattle.resin_site.proofs.Keepers.{passes, blames, counted, made_up, tells, tells_none}
-use Rattle.resin_site.proofs.Told.{as_asked, served_end, served_nothing, lawful_end, ends_end}
+use Rattle.resin_site.proofs.Told.{labelled, as_asked, served_end, served_nothing, lawful_end, ends_end}
 use Rattle.resin_site.proofs.serving.serve_one.Goals as goal
 
 -- want of memory before the steps begin
@@ -49,12 +49,12 @@ returns g c =
     let s = c.run_request-finish in
     let f' = seen (g.F.Files.stored s.new.files) (g.F.Files.faults s.new.files) (g.F.Files.answers s.new.files) in
     let t' = seen (g.T.Tables.stored s.new.tables) (g.T.Tables.faults s.new.tables) (g.T.Tables.answers s.new.tables) in
-    let u = world c.in_ok-m.m f t c.args.calls.now in
-    let w = world s.new.m f' t' s.new.calls in
+    let u = world c.in_ok-m.m (labelled f) t c.args.calls.now in
+    let w = world s.new.m (labelled f') t' s.new.calls in
     let path : c.as_slice-2.result.now ≡ path_of c.args.r.now.target = c.as_slice-2.ensures.value ∙ c.in_ok-path.ensures ∙ ap path_of c.as_slice.ensures in
     let path-3 : c.as_slice-3.result.now ≡ path_of c.args.r.now.target = c.as_slice-3.ensures.value ∙ sym c.as_slice-2.ensures.value ∙ path in
     let begins : c.in_ok-m.m ≡ new_state c.args.site.now c.args.number = c.in_ok-m.ensures.value ∙ ap (λ n. new_state n c.args.number) c.fuel.ensures in
-    let d = as_asked c.args.site.now c.args.number c.args.r.now c.as_slice-2.result.now c.in_ok-inputs.inputs c.in_ok-m.m f t c.args.calls.now s.result w path c.in_ok-inputs.ensures begins s.ensures in
+    let d = as_asked c.args.site.now c.args.number c.args.r.now c.as_slice-2.result.now c.in_ok-inputs.inputs c.in_ok-m.m (labelled f) t c.args.calls.now s.result w path c.in_ok-inputs.ensures begins s.ensures in
     let is : IfOk c.outcome_for.result (λ o. o ≡ outcome (path_of c.args.r.now.target) (is_head c.args.r.now.method) s.result s.new.m) =
     subst (λ h. IfOk c.outcome_for.result (λ o. o ≡ outcome (path_of c.args.r.now.target) h s.result s.new.m)) c.is_head.ensures
     (subst (λ p. IfOk c.outcome_for.result (λ o. o ≡ outcome p c.is_head.result s.result s.new.m)) path-3 c.outcome_for.ensures.outcome) in
@@ -65,7 +65,7 @@ returns g c =
       numbered = numbered_after s.result u w up b c.requires;
       later = passes s.result u w up b;
       served = λ K k. served_end c.args.site.now c.args.number c.args.r.now f f' t t' c.args.calls.now s.new.calls s.new.m s.result c.requires d K k c.outcome_for.result is c.outcome_for.ensures.memory;
-      lawful = lawful_end c.args.site.now c.args.number _ c.in_ok-m.m s.new.m f f' t t' c.args.calls.now s.new.calls s.result c.outcome_for.result begins c.in_ok-m.ensures.tied s.ensures
+      lawful = lawful_end c.args.site.now c.args.number _ c.in_ok-m.m s.new.m (labelled f) (labelled f') t t' c.args.calls.now s.new.calls s.result c.outcome_for.result begins c.in_ok-m.ensures.tied s.ensures
           c.outcome_for.ensures.memory c.outcome_for.ensures.lawful;
       ends = ends_end (path_of c.args.r.now.target) (is_head c.args.r.now.method) s.new.m u w s.result c.outcome_for.result is c.outcome_for.ensures.memory b;
       blames = blames s.result u w b;

@@ -1,4 +1,4 @@
-use Rattle.resin_meaning_forms.specs.Programs.{declare, declare_all}
+use Rattle.resin_meaning_forms.specs.Sources.{declare, declare_all}
 use Rattle.resin_meaning_forms.proofs.meaning_lemmas.Composition.{front, nothing_left}
 use Rattle.resin_step_parts.proofs.Loops.{leaves_done, leaves_next, leaves_stop}
 use Rattle.resin_step_parts.proofs.Steps.{leaves_here}

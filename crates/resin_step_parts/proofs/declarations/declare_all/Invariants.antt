@@ -1,4 +1,4 @@
-use Rattle.resin_meaning_forms.specs.Programs.{declare_all}
+use Rattle.resin_meaning_forms.specs.Sources.{declare_all}
 use Rattle.resin_step_parts.proofs.Steps.{Leaves}
 use Rattle.std.proofs.Common.{drop}
 use Rattle.resin_step_parts.proofs.declarations.declare_all.Given as goal

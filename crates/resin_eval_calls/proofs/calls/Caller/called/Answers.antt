@@ -1,6 +1,5 @@
 use Rattle.resin_eval_channels.specs.Under.meaning_forms.Calls.{call_form}
 use Rattle.resin_eval_channels.specs.Under.meaning_forms.Programs.{evals}
-use Rattle.resin_eval_channels.proofs.eval_nested_lemmas.Arms.{does_faulted}
 use Rattle.resin_eval_calls.proofs.Calling.{function_form, import_form, method_form, new_form, parent_form}
 use Rattle.resin_eval_channels.proofs.eval_nested_lemmas.Exits.{does_is}
 use Rattle.resin_eval_channels.proofs.meaning_lemmas.Composition.{does_act, does_exit, does_next}
@@ -83,6 +82,10 @@ pub returns-in_ok-args-in-New : goal.returns-in_ok-args-in-New
 returns-in_ok-args-in-New g c =
     does_is (ap (call_form (evals c.args.self.now.by.now.room)) c.in-New.is ∙ new_form (evals c.args.self.now.by.now.room) _ _) (does_next _ _ ((rw (c.as_slice-in-New.ensures) at c.in_ok-class-in-New.ensures) _ _ _) (does_next _ _ (rw (c.as_slice-in-New-2.ensures) at c.in_ok-args-in-New.ensures) (c.new_object.ensures)))
 
-pub returns-in-Import : goal.returns-in-Import
-returns-in-Import g c =
-    does_is (ap (call_form (evals c.args.self.now.by.now.room)) c.in-Import.is ∙ import_form (evals c.args.self.now.by.now.room) _ _) (does_faulted _ _ c.fault.ensures)
+pub returns-in_err-v-in-Import : goal.returns-in_err-v-in-Import
+returns-in_err-v-in-Import g c =
+    does_is (ap (call_form (evals c.args.self.now.by.now.room)) c.in-Import.is ∙ import_form (evals c.args.self.now.by.now.room) _ _) (does_exit _ _ _ c.from_residual-in_err-v-in-Import.ensures.1 (rw (c.get-in-Import.ensures) at c.in_err-v-in-Import.ensures.does))
+
+pub returns-in_ok-v-in-Import : goal.returns-in_ok-v-in-Import
+returns-in_ok-v-in-Import g c =
+    does_is (ap (call_form (evals c.args.self.now.by.now.room)) c.in-Import.is ∙ import_form (evals c.args.self.now.by.now.room) _ _) (does_next _ _ (rw (c.get-in-Import.ensures) at c.in_ok-v-in-Import.ensures.does) c.import.ensures)

@@ -1,0 +1,5 @@
+pub mod Spelled
+pub mod Answers_of
+pub mod Freezes
+pub mod Labelling
+pub mod Thaws
