@@ -37,7 +37,7 @@ impl CalmFiles {
         }
     }
 
-    /// Files that hold the same entries.
+    /// Files of their own that hold the same entries. It takes memory and time in proportion to what these hold. This is no keeper call.
     pub fn copy(&self) -> Result<CalmFiles, AllocError>
         ensures { IfOk result (λ copy. copy ≡ self.now) }
     {
