@@ -6,7 +6,7 @@ use Rattle.std.specs.Option.{option_map_or}
 use Rattle.resin_shadow.specs.Marks.{Marks}
 use Rattle.resin_shadow.specs.Shadows.{places}
 use Rattle.resin_shadow.specs.Parts.{PlacedRun, run_spelled, spelled_by}
-use Rattle.resin_store.specs.Entries.{Marked, plain_bytes, marks}
+use Rattle.resin_step_parts.specs.Under.store.Entries.{Marked, plain_bytes, marks}
 use Rattle.resin_step_parts.specs.Under.label.Sets.{NumberSet, empty, contains, union, set_of as labels_of}
 use Rattle.resin_step_parts.proofs.label_lemmas.Members.{same_by, contains-union, contains-set_of}
 use Rattle.resin_step_parts.specs.Under.lstr.Texts.{Text as LabelledText, carrying}

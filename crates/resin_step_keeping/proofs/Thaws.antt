@@ -4,8 +4,8 @@ use Rattle.std.specs.Prelude.{Option, nat_lt, codes}
 use Rattle.std.proofs.lemmas.Result.{err_from_is_err_and}
 use Rattle.resin_frozen.specs.Reading.{Said, said}
 use Rattle.resin_shadow.specs.Marks.{Marks, policies}
-use Rattle.resin_store.specs.Entries.{Marked, LabelledEntry, Good, Bad, plain, lift, plain_bytes, marks, marks_in}
-use Rattle.resin_store.proofs.Lifts.{keeps_entries}
+use Rattle.resin_step_parts.specs.Under.store.Entries.{Marked, LabelledEntry, Good, Bad, plain, lift, plain_bytes, marks, marks_in}
+use Rattle.resin_step_parts.proofs.meaning_lemmas.OneCall.{kept_entry}
 use Rattle.resin_step_parts.specs.Under.base.declared.files.Entry.{Entry}
 use Rattle.resin_step_parts.specs.Under.lstr.Texts.{Text as LabelledText, LONGEST}
 use Rattle.resin_step_parts.specs.Under.scalar.declared.faults.ScriptFault.{ScriptFault}
@@ -147,7 +147,7 @@ size_by (Good d v) e h = sym (length-map (λ b. b.0) d) ∙ ap (λ x. length x.b
 size_by (Bad bytes shadow) e h = ap (λ x. length x.bytes) h
 
 pub size_is : (e : Entry) → size (lift e) ≡ length e.bytes
-size_is e = size_by (lift e) e (keeps_entries e)
+size_is e = size_by (lift e) e (kept_entry e)
 
 is_long : (n : ℕ) → LONGEST < n → nat_lt LONGEST n ≡ true
 is_long n h = grind arith
@@ -176,7 +176,7 @@ bad_by (Good d version) m s f is = absurd (let q : ⊥ = cc in q)
 bad_by (Bad bytes shadow) m s f is = does_faulted BadShadow m s is
 
 pub good_entry : (e : Entry) (v : Marks) (m : State) (r : Result LabelledText Stop) (m' : State) → length e.bytes ≤ LONGEST → Some v ≡ marks_in (lift e) → ((d : Marked) → plain_bytes d ≡ e.bytes → marks d ≡ v → Runs (thaw_marked d) m r m') → Runs (thaw_entry (lift e)) m r m'
-good_entry e v m r m' h f go = by_short e m r m' h (good_by (lift e) e v m r m' (keeps_entries e) f go)
+good_entry e v m r m' h f go = by_short e m r m' h (good_by (lift e) e v m r m' (kept_entry e) f go)
 
 pub bad_entry : (e : Entry) (m : State) (s : Stop) → length e.bytes ≤ LONGEST → None ≡ marks_in (lift e) → s ≡ Fault BadShadow m.line → Runs (thaw_entry (lift e)) m (Err s) m
 bad_entry e m s h f is = by_short e m (Err s) m h (bad_by (lift e) m s f is)

@@ -1,6 +1,6 @@
 use Rattle.std.proofs.Common.{sym, ap, map, ◌∙◌, length}
 use Rattle.resin_shadow.specs.Shadows.{places}
-use Rattle.resin_store.specs.Entries.{marks}
+use Rattle.resin_step_parts.specs.Under.store.Entries.{marks}
 use Rattle.resin_shadow.specs.Marks.{policies}
 use Rattle.resin_step_keeping.proofs.Labelling.{labelled_is}
 use Rattle.resin_step_keeping.proofs.Thaws.{marked_lost, charge_stops, charged_stops, made_lost, made_text}
