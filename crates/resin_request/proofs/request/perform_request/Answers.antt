@@ -13,5 +13,5 @@ returns-in_err-found g c = does_yes _ _ _ (sym c.is_open.ensures ∙ c.if-not-is
 pub returns-in-None : goal.returns-in-None
 returns-in-None g c = does_yes _ _ _ (sym c.is_open.ensures ∙ c.if-not-is_open.false) (does_next _ _ (rw c.in-None.is at c.in_ok-found.ensures) (does_give Missing _))
 
-pub returns-in-Some : goal.returns-in-Some
-returns-in-Some g c = does_yes _ _ _ (sym c.is_open.ensures ∙ c.if-not-is_open.false) (does_next _ _ (rw c.in-Some.is at c.in_ok-found.ensures) c.serve_entry.ensures)
+pub returns : goal.returns
+returns g c = does_yes _ _ _ (sym c.is_open.ensures ∙ c.if-not-is_open.false) (does_next _ _ (rw c.in-Some.is at c.in_ok-found.ensures) c.serve_entry.ensures)

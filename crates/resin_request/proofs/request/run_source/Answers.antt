@@ -5,7 +5,7 @@ use Rattle.resin_request.proofs.request.run_source.Goals as goal
 
 pub read_source-requires : goal.read_source-requires
 read_source-requires g c =
-    rw (c.bytes.ensures, length-map) (omega (arith, c.len-_len.ensures.value, c.len-_len.ensures.short))
+    rw (c.bytes.ensures, length-map) (omega (arith, c.len-len.ensures.value, c.len-len.ensures.short))
 
 pub returns-in_err-p : goal.returns-in_err-p
 returns-in_err-p g c =
