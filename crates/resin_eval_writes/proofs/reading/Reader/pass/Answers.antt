@@ -9,4 +9,4 @@ returns-in_err-chain g c =
 
 pub returns : goal.returns
 returns g c =
-    does_next _ _ (does_looked _ _ (c.in_ok-chain.ensures.items_if_clones_equal (λ x y h. h) ∙ rw c.chains.ensures at c.chain-chain.ensures)) (rw c.as_slice.ensures.value at c.ask_filters.ensures)
+    does_next _ _ (does_looked _ _ (c.in_ok-chain.ensures.items_if_clones_equal (λ x y h. h) ∙ rw c.chains.ensures at c.chain.ensures)) (rw c.as_slice.ensures.value at c.ask_filters.ensures)
