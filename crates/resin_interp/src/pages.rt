@@ -78,13 +78,7 @@ fn note_read(m: &mut Machine, channel: Channel, path: &[u8]) -> Result<(), Stop>
 {
     match channel {
         Channel::Code => m.import(path),
-        Channel::Http
-        | Channel::Header
-        | Channel::Email
-        | Channel::File
-        | Channel::Sql
-        | Channel::Input
-        | Channel::Func => Ok(()),
+        _ => Ok(()),
     }
 }
 
