@@ -7,7 +7,7 @@ ghost use Rattle.resin_eval_writes.specs.Under.store.Entries.{lift};
 ghost use Rattle.resin_eval_writes.specs.Under.value.Seen.{tree_of, trees_of};
 ghost use Rattle.std.specs.Option.{option_map};
 ghost use Rattle.resin_eval_channels.specs.Held.{IsHeld, marked};
-ghost use Rattle.std.specs.Prelude.{IfOk, ◌++◌, ◌≡◌};
+ghost use Rattle.std.specs.Prelude.{IfOk, length, ◌++◌, ◌≡◌};
 
 use resin_eval_writes::reading::{Reader, path_context};
 use resin_eval_writes::under::base::{Entry, Files, Tables};
@@ -16,7 +16,7 @@ use resin_eval_writes::under::eval_nested::nested::{Evaluator, Nested, Outcome};
 use resin_eval_writes::under::eval_nested::run::Run;
 use resin_eval_writes::under::heap::PreludeClass;
 use resin_eval_writes::under::journal::Channel;
-use resin_eval_writes::under::lstr::LText;
+use resin_eval_writes::under::lstr::{LText, MAX_LEN};
 use resin_eval_writes::under::machine::{Machine, Stop};
 use resin_eval_writes::under::scalar::ScriptFault;
 use resin_eval_writes::under::step_parts::reads::number;
@@ -29,8 +29,6 @@ use std::alloc::{AllocError, Global};
 
 /// FILE_APPEND
 const APPEND: i64 = 8;
-
-const MOST_TEXT: usize = 16_777_216;
 
 /// Whether a script may give these flags.
 pub(crate) fn is_flag(flags: i64) -> bool
@@ -58,7 +56,9 @@ struct Held {
 
 impl Held {
     // How many bytes there are, which is how many have policies told.
-    fn len(&self) -> usize {
+    fn len(&self) -> usize
+        ensures { result ≡ length self.now.bytes }
+    {
         self.bytes.as_slice().len()
     }
 }
@@ -79,13 +79,13 @@ fn behind_held(alloc: Global, m: &Machine, entry: &Entry, new: Held) -> Result<H
     ensures held { IfOk result IsHeld }
 {
     let len = entry.bytes.as_slice().len();
-    if len > MOST_TEXT {
+    if len > MAX_LEN {
         return Err(m.fault(ScriptFault::TextTooLong));
     }
     let Some(mut marks) = policies_of(alloc, entry)? else {
         return Err(m.fault(ScriptFault::BadShadow));
     };
-    if len + new.len() > MOST_TEXT {
+    if len + new.len() > MAX_LEN {
         return Err(m.fault(ScriptFault::TextTooLong));
     }
     let bytes = joined_bytes(alloc, entry.bytes.as_slice(), new.bytes.as_slice())?;
@@ -177,6 +177,7 @@ impl<
         let marks = freeze_text(self.by.alloc, &run.machine, &kept)?;
         let bytes = Bytes::from_slice(self.by.alloc, kept.bytes())?;
         let held = to_hold(self.by.alloc, run, path, flags, Held { bytes, marks })?;
+        prove!(held.marks.len() == held.len() as u64);
         let shadow = encode(self.by.alloc, &held.marks)?;
         run.write_file(path, held.bytes.as_slice(), shadow.as_slice())?;
         Ok(number(kept.len() as i64))
