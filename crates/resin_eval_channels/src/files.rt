@@ -165,15 +165,15 @@ impl<
         &self,
         run: &mut Run<F, T>,
         path: &[u8],
-        data: &LText,
+        text: &LText,
         flags: i64,
     ) -> Result<Value, Stop>
         requires { Nests F.Files T.Tables N.pre N.post self.now.by.now }
-        ensures { Performs F.Files T.Tables (put_data (means self.now.by.now) path.now data.now flags) run.old (on_ok tree_of result) run.new }
+        ensures { Performs F.Files T.Tables (put_data (means self.now.by.now) path.now text.now flags) run.old (on_ok tree_of result) run.new }
     {
         let context = path_context(self.by.alloc, Channel::File, path)?;
-        let data = data.clone()?;
-        let kept = Reader { by: self.by }.keep_through(run, Channel::File, &context, data)?;
+        let given = text.clone()?;
+        let kept = Reader { by: self.by }.keep_through(run, Channel::File, &context, given)?;
         let marks = freeze_text(self.by.alloc, &run.machine, &kept)?;
         let bytes = Bytes::from_slice(self.by.alloc, kept.bytes())?;
         let held = to_hold(self.by.alloc, run, path, flags, Held { bytes, marks })?;
@@ -193,16 +193,16 @@ impl<
         &self,
         run: &mut Run<F, T>,
         path: &[u8],
-        data: &LText,
+        text: &LText,
         flags: i64,
     ) -> Result<Value, Stop>
         requires { Nests F.Files T.Tables N.pre N.post self.now.by.now }
-        ensures { Performs F.Files T.Tables (put_contents (means self.now.by.now) path.now data.now flags) run.old (on_ok tree_of result) run.new }
+        ensures { Performs F.Files T.Tables (put_contents (means self.now.by.now) path.now text.now flags) run.old (on_ok tree_of result) run.new }
     {
         if !lawful_path(path) || !is_flag(flags) {
             return run.machine.throw(PreludeClass::ValueError, b"");
         }
-        self.put_data(run, path, data, flags)
+        self.put_data(run, path, text, flags)
     }
 }
 

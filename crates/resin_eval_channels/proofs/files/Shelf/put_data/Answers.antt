@@ -12,21 +12,21 @@ pub returns-in_err-context : goal.returns-in_err-context
 returns-in_err-context g c =
     does_seen_unbegun _ _ _ _ c.from_residual.ensures.1
 
-pub returns-in_err-data : goal.returns-in_err-data
-returns-in_err-data g c =
-    does_seen_unbegun _ _ _ _ c.from_residual-in_err-data.ensures.1
+pub returns-in_err-given : goal.returns-in_err-given
+returns-in_err-given g c =
+    does_seen_unbegun _ _ _ _ c.from_residual-in_err-given.ensures.1
 
 pub returns-in_err-kept : goal.returns-in_err-kept
 returns-in_err-kept g c =
-    does_seen_exit _ _ _ _ c.from_residual-in_err-kept.ensures.1 (rw (c.in_ok-context.ensures, c.in_ok-data.ensures.cases) at c.in_err-kept.ensures)
+    does_seen_exit _ _ _ _ c.from_residual-in_err-kept.ensures.1 (rw (c.in_ok-context.ensures, c.in_ok-given.ensures.cases) at c.in_err-kept.ensures)
 
 pub returns-in_err-marks : goal.returns-in_err-marks
 returns-in_err-marks g c =
-    does_next _ _ (rw (c.in_ok-context.ensures, c.in_ok-data.ensures.cases) at c.in_ok-kept.ensures) (does_seen_exit _ _ _ _ c.from_residual-in_err-marks.ensures.1 (c.in_err-marks.ensures _ _ _))
+    does_next _ _ (rw (c.in_ok-context.ensures, c.in_ok-given.ensures.cases) at c.in_ok-kept.ensures) (does_seen_exit _ _ _ _ c.from_residual-in_err-marks.ensures.1 (c.in_err-marks.ensures _ _ _))
 
 pub returns-in_err-bytes : goal.returns-in_err-bytes
 returns-in_err-bytes g c =
-    does_next _ _ (rw (c.in_ok-context.ensures, c.in_ok-data.ensures.cases) at c.in_ok-kept.ensures) (does_seen_lost _ _ _ _ c.from_residual-in_err-bytes.ensures.1 (c.in_ok-marks.ensures _ _ _))
+    does_next _ _ (rw (c.in_ok-context.ensures, c.in_ok-given.ensures.cases) at c.in_ok-kept.ensures) (does_seen_lost _ _ _ _ c.from_residual-in_err-bytes.ensures.1 (c.in_ok-marks.ensures _ _ _))
 
 pub to_hold-requires : goal.to_hold-requires
 to_hold-requires g c =
@@ -34,20 +34,20 @@ to_hold-requires g c =
 
 pub returns-in_err-held : goal.returns-in_err-held
 returns-in_err-held g c =
-    does_next _ _ (rw (c.in_ok-context.ensures, c.in_ok-data.ensures.cases) at c.in_ok-kept.ensures) (does_next _ _ (c.in_ok-marks.ensures _ _ _) (does_seen_exit _ _ _ _ c.from_residual-in_err-held.ensures.1 (rw (c.in_ok-bytes.ensures, c.bytes.ensures) at c.in_err-held.ensures.does)))
+    does_next _ _ (rw (c.in_ok-context.ensures, c.in_ok-given.ensures.cases) at c.in_ok-kept.ensures) (does_next _ _ (c.in_ok-marks.ensures _ _ _) (does_seen_exit _ _ _ _ c.from_residual-in_err-held.ensures.1 (rw (c.in_ok-bytes.ensures, c.bytes.ensures) at c.in_err-held.ensures.does)))
 
 pub returns-in_err-shadow : goal.returns-in_err-shadow
 returns-in_err-shadow g c =
-    does_next _ _ (rw (c.in_ok-context.ensures, c.in_ok-data.ensures.cases) at c.in_ok-kept.ensures) (does_next _ _ (c.in_ok-marks.ensures _ _ _) (does_seen_lost _ _ _ _ c.from_residual-in_err-shadow.ensures.1 (rw (c.in_ok-bytes.ensures, c.bytes.ensures) at c.in_ok-held.ensures.does)))
+    does_next _ _ (rw (c.in_ok-context.ensures, c.in_ok-given.ensures.cases) at c.in_ok-kept.ensures) (does_next _ _ (c.in_ok-marks.ensures _ _ _) (does_seen_lost _ _ _ _ c.from_residual-in_err-shadow.ensures.1 (rw (c.in_ok-bytes.ensures, c.bytes.ensures) at c.in_ok-held.ensures.does)))
 
 pub returns-in_err-write_file : goal.returns-in_err-write_file
 returns-in_err-write_file g c =
     let short : length c.as_slice-2.result.now < 2 ^ 64 = search rules in
     let d = are_written c.in_ok-held.held _ _ c.in_ok-held.ensures.held c.len.ensures.marks c.as_slice.ensures (c.as_slice-2.ensures ∙ c.in_ok-shadow.ensures) short in
-    does_next _ _ (rw (c.in_ok-context.ensures, c.in_ok-data.ensures.cases) at c.in_ok-kept.ensures) (does_next _ _ (c.in_ok-marks.ensures _ _ _) (does_next _ _ (rw (c.in_ok-bytes.ensures, c.bytes.ensures) at c.in_ok-held.ensures.does) (does_seen_exit _ _ _ _ c.from_residual-in_err-write_file.ensures.1 (c.in_err-write_file.ensures _ d))))
+    does_next _ _ (rw (c.in_ok-context.ensures, c.in_ok-given.ensures.cases) at c.in_ok-kept.ensures) (does_next _ _ (c.in_ok-marks.ensures _ _ _) (does_next _ _ (rw (c.in_ok-bytes.ensures, c.bytes.ensures) at c.in_ok-held.ensures.does) (does_seen_exit _ _ _ _ c.from_residual-in_err-write_file.ensures.1 (c.in_err-write_file.ensures _ d))))
 
 pub returns : goal.returns
 returns g c =
     let short : length c.as_slice-2.result.now < 2 ^ 64 = search rules in
     let d = are_written c.in_ok-held.held _ _ c.in_ok-held.ensures.held c.len.ensures.marks c.as_slice.ensures (c.as_slice-2.ensures ∙ c.in_ok-shadow.ensures) short in
-    does_next _ _ (rw (c.in_ok-context.ensures, c.in_ok-data.ensures.cases) at c.in_ok-kept.ensures) (does_next _ _ (c.in_ok-marks.ensures _ _ _) (does_next _ _ (rw (c.in_ok-bytes.ensures, c.bytes.ensures) at c.in_ok-held.ensures.does) (does_next _ _ (c.in_ok-write_file.ensures _ d) (does_given _ _ (ap tree_of c.number.ensures ∙ ap (λ (n : ℤ). integer n no_labels) ?)))))
+    does_next _ _ (rw (c.in_ok-context.ensures, c.in_ok-given.ensures.cases) at c.in_ok-kept.ensures) (does_next _ _ (c.in_ok-marks.ensures _ _ _) (does_next _ _ (rw (c.in_ok-bytes.ensures, c.bytes.ensures) at c.in_ok-held.ensures.does) (does_next _ _ (c.in_ok-write_file.ensures _ d) (does_given _ _ (ap tree_of c.number.ensures ∙ ap (λ (n : ℤ). integer n no_labels) ?)))))
