@@ -1,27 +1,26 @@
 -- Bytes that are to be held, each with its policies: what a text's policies are kept as, and new bytes behind those of an entry.
-use Rattle.std.proofs.Common.{◌≡◌, ◌≢◌, ℕ, ℤ, suc, ◌+◌, ◌≤◌, ◌<◌, ◌^◌, Bool, true, false, cond, List, [], ◌∷◌, ◌++◌, length, map, Option, None, Some, Result, Ok, Err, inl, refl, sym, ap, subst, ◌∙◌, arith, length-append, IsErrAnd}
+use Rattle.std.proofs.Common.{◌≡◌, ℕ, suc, ◌+◌, ◌≤◌, ◌<◌, ◌^◌, Bool, true, false, cond, List, [], ◌∷◌, ◌++◌, length, Option, None, Some, Result, Ok, Err, inl, refl, sym, ap, subst, ◌∙◌, arith, length-append, IsErrAnd}
 use Rattle.std.specs.FinMap.{empty}
-use Rattle.std.specs.Prelude.{pos, zip, nat_le}
-use Rattle.std.specs.Ordering.{int_eq}
+use Rattle.std.specs.Prelude.{zip, nat_le}
 use Rattle.std.specs.Option.{option_map, option_and_then}
-use Rattle.std.proofs.lemmas.Bool.Decides.{Decides-int_eq}
 use Rattle.std.proofs.lemmas.List.{length-map}
 use Rattle.std.proofs.lemmas.Result.{err_from_is_err_and}
 use Rattle.std.proofs.lemmas.Slice.Zip.{firsts-zip, seconds-zip}
 use Rattle.resin_shadow.specs.Marks.{Marks, AreMarks}
 use Rattle.resin_shadow.specs.Shadows.{written2}
-use Rattle.resin_eval_writes.specs.Under.store.Entries.{Marked, LabelledEntry, Good, Bad, Version, plain, plain_bytes, marks, marks_in, lift, AreWritten}
+use Rattle.resin_eval_writes.specs.Under.store.Entries.{Marked, LabelledEntry, Good, Bad, plain, plain_bytes, marks, marks_in, lift, AreWritten}
 use Rattle.resin_eval_writes.proofs.meaning_lemmas.OneCall.{kept_entry}
 use Rattle.resin_eval_writes.specs.Under.base.declared.calls.Calls.{Calls}
 use Rattle.resin_eval_writes.specs.Under.base.declared.files.Entry.{Entry}
 use Rattle.resin_eval_writes.specs.Under.lstr.Texts.{Text as LabelledText, LONGEST, bytes_of}
+use Rattle.resin_eval_writes.specs.Under.scalar.declared.faults.ScriptFault.{ScriptFault}
 use Rattle.resin_eval_writes.specs.Under.scalar.declared.faults.ScriptFault.TheVariants.{BadShadow, TextTooLong, NotStorable}
 use Rattle.resin_eval_writes.specs.Under.machine.declared.stop.Stop.{Stop}
-use Rattle.resin_eval_writes.specs.Under.machine.declared.stop.Stop.TheVariants.{Memory}
+use Rattle.resin_eval_writes.specs.Under.machine.declared.stop.Stop.TheVariants.{Fault, Memory}
 use Rattle.resin_eval_writes.specs.Under.machine.State.{State}
 use Rattle.resin_eval_writes.specs.Under.meaning.Programs.{Whole, Prog, give, then_by, ◌>>=◌, act}
 use Rattle.resin_eval_writes.specs.Under.meaning.Runs.{World, Does, seen, done}
-use Rattle.resin_eval_writes.specs.Under.meaning_forms.Files.{append_flag, behind_held, longer}
+use Rattle.resin_eval_writes.specs.Under.meaning_forms.Files.{behind_held, longer}
 use Rattle.resin_eval_writes.specs.Under.meaning_forms.Keeping.{each_of, frozen_marks, or_not_storable, freeze_text}
 use Rattle.resin_eval_writes.specs.Under.meaning_forms.Parts.{faulted}
 use Rattle.resin_eval_writes.specs.Under.meaning_forms.Runs.{Runs, on_ok}
@@ -49,6 +48,12 @@ alone m = record { state = m; store = record { files = empty; tables = empty }; 
 abbrev no_calls : Calls
 no_calls = record { made = 0; failed = [] }
 
+ok_is : {A : Type 0} (x y : A) → ◌≡◌ {A = Result A Stop} (Ok x) (Ok y) → x ≡ y
+ok_is x y e = cc
+
+no_ok : {A : Type 0} (s : Stop) (x : A) → ◌≡◌ {A = Result A Stop} (Err s) (Ok x) → ⊥
+no_ok s x e = cc
+
 frozen_there : (t : LabelledText) (v : Marks) (m m' : State) → Runs (freeze_text t) m (Ok v) m' → frozen_marks m t ≡ Some v
 frozen_there t v m m' h =
     let d = done (h (seen (Some empty) 0 None) (seen (Some empty) 0 None) no_calls) in
@@ -56,8 +61,8 @@ frozen_there t v m m' h =
     ended_so s.0
   where
     by : (o : Option Marks) → (or_not_storable o [] (alone m)).end ≡ Ok v → o ≡ Some v
-    by (Some w) e = let f : w ≡ v = cc in ap Some f
-    by None = unfold act in λ e. absurd (cc)
+    by (Some w) = λ e. ap Some (ok_is w v e)
+    by None = unfold act in λ e. absurd (no_ok (Fault NotStorable m.line) v e)
 
     ended_so : (freeze_text t [] (alone m)).end ≡ Ok v → frozen_marks m t ≡ Some v
     ended_so = unfold ◌>>=◌ then_by act in by (frozen_marks m t)
@@ -177,21 +182,12 @@ lost_if : {A : Type 0} (b : Bool) (p q : Prog A) {u : World} → Does p u (Err M
 lost_if true p q d e = d
 lost_if false p q d e = e
 
+lost_fault : (fault : ScriptFault) {u : World} → Does (faulted {A = Marked} fault) u (Err Memory) u
+lost_fault fault = does_nothing (faulted {A = Marked} fault) (λ failing at. unfold act in inl refl)
+
 lost_by : (new : Marked) (l : LabelledEntry) {u : World} → Does (behind_held new l) u (Err Memory) u
-lost_by new (Good d version) = lost_if _ _ _ (lost_if _ _ _ (does_nothing (give (d ++ new)) (λ failing at. inl refl)) (does_nothing (faulted TextTooLong) (λ failing at. unfold act in inl refl))) (does_nothing (faulted TextTooLong) (λ failing at. unfold act in inl refl))
-lost_by new (Bad bytes shadow) = lost_if _ _ _ (does_nothing (faulted BadShadow) (λ failing at. unfold act in inl refl)) (does_nothing (faulted TextTooLong) (λ failing at. unfold act in inl refl))
+lost_by new (Good d version) = lost_if _ _ _ (lost_if _ _ _ (does_nothing (give (d ++ new)) (λ failing at. inl refl)) (lost_fault TextTooLong)) (lost_fault TextTooLong)
+lost_by new (Bad bytes shadow) = lost_if _ _ _ (lost_fault BadShadow) (lost_fault TextTooLong)
 
 pub behind_lost : {A : Type 0} (g : A → Marked) (new : Marked) (l : LabelledEntry) {u : World} (r : Result A Stop) → IsErrAnd r (λ e. e ≡ Memory) → Does (behind_held new l) u (on_ok g r) u
 behind_lost g new l r h = let e = err_from_is_err_and r h in rw (e.1, e.2) (lost_by new l)
-
--- ---- flags
-
-pub is_append : (n : ℤ) → n ≡ pos 8 → int_eq n append_flag ≡ true
-is_append n e = (Decides-int_eq n (pos 8)).1 e
-
-pub isnt_append : (n : ℤ) → n ≢ pos 8 → int_eq n append_flag ≡ false
-isnt_append n ne = by (int_eq n append_flag) refl
-  where
-    by : (b : Bool) → int_eq n append_flag ≡ b → b ≡ false
-    by true e = absurd (ne ((Decides-int_eq n (pos 8)).0 e))
-    by false e = refl

@@ -1,11 +1,12 @@
 //! Functions on files once their arguments are evaluated: policies are kept beside the bytes, and come back with them.
-ghost use Rattle.resin_eval_writes.specs.Under.meaning_forms.Files.{behind_found, behind_held, contents_of, exists, flags_in, get_contents, is_flag, put_contents, put_data, to_hold, unlink};
+ghost use Rattle.resin_eval_writes.specs.Under.meaning_forms.Files.{append_flag, behind_found, behind_held, contents_of, exists, flags_in, get_contents, is_flag, put_contents, put_data, to_hold, unlink};
 ghost use Rattle.resin_eval_writes.specs.Under.meaning_forms.Runs.{Runs, on_ok};
 ghost use Rattle.resin_eval_writes.specs.Under.eval_nested.Nested.{Nests, means};
 ghost use Rattle.resin_eval_writes.specs.Under.eval_nested.Running.{Performs};
 ghost use Rattle.resin_eval_writes.specs.Under.store.Entries.{lift};
 ghost use Rattle.resin_eval_writes.specs.Under.value.Seen.{tree_of, trees_of};
 ghost use Rattle.std.specs.Option.{option_map};
+ghost use Rattle.std.specs.Ordering.{int_eq};
 ghost use Rattle.resin_eval_channels.specs.Held.{IsHeld, marked};
 ghost use Rattle.std.specs.Prelude.{IfOk, length, ◌++◌, ◌≡◌};
 
@@ -29,6 +30,13 @@ use std::alloc::{AllocError, Global};
 
 /// FILE_APPEND
 const APPEND: i64 = 8;
+
+// Whether new bytes are to stand behind those that are held.
+fn is_append(flags: i64) -> bool
+    ensures { result ≡ int_eq flags append_flag }
+{
+    flags == APPEND
+}
 
 /// Whether a script may give these flags.
 pub(crate) fn is_flag(flags: i64) -> bool
@@ -105,7 +113,7 @@ fn to_hold<F: Files, T: Tables>(
     ensures does { Performs F.Files T.Tables (to_hold path.now flags (marked new)) run.old (on_ok marked result) run.new }
     ensures held { IfOk result IsHeld }
 {
-    if flags != APPEND {
+    if !is_append(flags) {
         return Ok(new);
     }
     match run.read_file(path)? {
@@ -199,7 +207,10 @@ impl<
         requires { Nests F.Files T.Tables N.pre N.post self.now.by.now }
         ensures { Performs F.Files T.Tables (put_contents (means self.now.by.now) path.now text.now flags) run.old (on_ok tree_of result) run.new }
     {
-        if !lawful_path(path) || !is_flag(flags) {
+        if !lawful_path(path) {
+            return run.machine.throw(PreludeClass::ValueError, b"");
+        }
+        if !is_flag(flags) {
             return run.machine.throw(PreludeClass::ValueError, b"");
         }
         self.put_data(run, path, text, flags)

@@ -1,6 +1,6 @@
 use Rattle.resin_eval_writes.specs.Under.meaning_forms.Files.{contents_of}
 use Rattle.resin_eval_writes.specs.Under.meaning_forms.Programs.{evals}
-use Rattle.resin_eval_writes.specs.Under.store.Entries.{LabelledEntry, lift}
+use Rattle.resin_eval_writes.specs.Under.store.Entries.{lift}
 use Rattle.resin_eval_writes.specs.Under.base.declared.files.Entry.{Entry}
 use Rattle.resin_eval_writes.proofs.eval_nested_lemmas.Exits.{does_is, does_seen_exit, does_seen_lost}
 use Rattle.resin_eval_writes.proofs.meaning_lemmas.Composition.{does_give, does_next}
