@@ -1,3 +1,4 @@
+pub mod Holding
 pub mod Unbuilt
 pub mod Values
 -- Passed on to the crates above, which list this one alone.

@@ -1,5 +1,6 @@
 -- What the functions of channels mean by the values of their arguments.
-use Rattle.std.proofs.Common.{◌≡◌, ℕ, ℤ, ◌<◌, List, [], ◌∷◌, length, Bool, true, false, cond, Some, None, Result, Ok, refl, sym, ap, subst, ◌∙◌, arith, ◌≤◌, drop, get_or, ◌-◌}
+use Rattle.std.proofs.Common.{◌≡◌, ℕ, suc, ℤ, ◌<◌, List, [], ◌∷◌, length, Bool, true, false, cond, Some, None, Result, Ok, refl, sym, ap, subst, ◌∙◌, arith, ◌≤◌, drop, take, get_or, ◌-◌}
+use Rattle.std.proofs.lemmas.List.{take_all}
 use Rattle.std.specs.Prelude.{pos, negsuc, decimal, nat_le, ◌&&◌}
 use Rattle.resin_eval_writes.specs.Under.label.Sets.{NumberSet}
 use Rattle.resin_eval_writes.specs.Under.lstr.Texts.{Text as LabelledText, carrying, bytes_of}
@@ -12,7 +13,7 @@ use Rattle.resin_eval_writes.specs.Under.meaning_forms.Parts.{Evals}
 use Rattle.std.specs.Fmt.{signed_decimal}
 use Rattle.resin_eval_writes.specs.Under.ops.Conversions.{text_of}
 use Rattle.resin_eval_writes.specs.Under.meaning_forms.Channels.{channel_work, status_in, status_of, unbuilt}
-use Rattle.resin_eval_writes.specs.Under.meaning_forms.declared.callee.ChannelFunction.TheVariants.{Header, Mail}
+use Rattle.resin_eval_writes.specs.Under.meaning_forms.declared.callee.ChannelFunction.TheVariants.{FileExists, FileGetContents, FilePutContents, Header, Mail, Unlink}
 use Rattle.resin_eval_writes.proofs.eval_nested_lemmas.Arguments.{IsNoText}
 use Rattle.resin_eval_writes.specs.Under.machine.State.{State}
 use Rattle.resin_eval_writes.specs.Under.machine.Objects.{settled}
@@ -136,3 +137,67 @@ opened_thrice [] x y z lt e f g = absurd (omega (arith, lt))
 opened_thrice (a ∷ []) x y z lt e f g = absurd (omega (arith, lt))
 opened_thrice (a ∷ b ∷ []) x y z lt e f g = absurd (omega (arith, lt))
 opened_thrice (a ∷ b ∷ c ∷ xs) x y z lt e f g = λ i. sym e i ∷ sym f i ∷ sym g i ∷ xs
+
+-- ---- a path or data that is no text, and missing arguments
+
+pub no_read : (ev : Evals) (v : Value) (ts : List Tree) → IsNoText v → channel_work ev FileGetContents (tree_of v ∷ ts) ≡ unbuilt
+no_read ev Null ts isnt = refl
+no_read ev (Truth b) ts isnt = refl
+no_read ev (Int n s) ts isnt = refl
+no_read ev (Text t) ts isnt = absurd (isnt t refl)
+no_read ev (Arr a) ts isnt = refl
+no_read ev (Obj o) ts isnt = refl
+
+pub no_unlink : (ev : Evals) (v : Value) (ts : List Tree) → IsNoText v → channel_work ev Unlink (tree_of v ∷ ts) ≡ unbuilt
+no_unlink ev Null ts isnt = refl
+no_unlink ev (Truth b) ts isnt = refl
+no_unlink ev (Int n s) ts isnt = refl
+no_unlink ev (Text t) ts isnt = absurd (isnt t refl)
+no_unlink ev (Arr a) ts isnt = refl
+no_unlink ev (Obj o) ts isnt = refl
+
+pub no_exists : (ev : Evals) (v : Value) (ts : List Tree) → IsNoText v → channel_work ev FileExists (tree_of v ∷ ts) ≡ unbuilt
+no_exists ev Null ts isnt = refl
+no_exists ev (Truth b) ts isnt = refl
+no_exists ev (Int n s) ts isnt = refl
+no_exists ev (Text t) ts isnt = absurd (isnt t refl)
+no_exists ev (Arr a) ts isnt = refl
+no_exists ev (Obj o) ts isnt = refl
+
+pub no_put_path : (ev : Evals) (v : Value) (ts : List Tree) → IsNoText v → channel_work ev FilePutContents (tree_of v ∷ ts) ≡ unbuilt
+no_put_path ev Null ts isnt = refl
+no_put_path ev (Truth b) ts isnt = refl
+no_put_path ev (Int n s) ts isnt = refl
+no_put_path ev (Text t) ts isnt = absurd (isnt t refl)
+no_put_path ev (Arr a) ts isnt = refl
+no_put_path ev (Obj o) ts isnt = refl
+
+pub no_put_data : (ev : Evals) (path : LabelledText) (v : Value) (ts : List Tree) → IsNoText v → channel_work ev FilePutContents (text path ∷ tree_of v ∷ ts) ≡ unbuilt
+no_put_data ev path Null ts isnt = refl
+no_put_data ev path (Truth b) ts isnt = refl
+no_put_data ev path (Int n s) ts isnt = refl
+no_put_data ev path (Text t) ts isnt = absurd (isnt t refl)
+no_put_data ev path (Arr a) ts isnt = refl
+no_put_data ev path (Obj o) ts isnt = refl
+
+no_put_of_one : (ev : Evals) (a : Tree) → channel_work ev FilePutContents (a ∷ []) ≡ unbuilt
+no_put_of_one ev null = refl
+no_put_of_one ev (boolean b) = refl
+no_put_of_one ev (integer n s) = refl
+no_put_of_one ev (text t) = refl
+no_put_of_one ev (array r l h) = refl
+no_put_of_one ev (object o) = refl
+
+pub no_short_put : (ev : Evals) (ts : List Tree) → length ts < 2 → channel_work ev FilePutContents ts ≡ unbuilt
+no_short_put ev [] lt = refl
+no_short_put ev (t ∷ []) lt = no_put_of_one ev t
+no_short_put ev (t ∷ u ∷ ts) lt = absurd (omega (arith, lt))
+
+-- two arguments that stand first, and the rest of them, as a pattern binds them
+pub opened_twice : {A : Type 0} (xs : List A) (x y : A) → 2 ≤ length xs → x ≡ get_or xs 0 x → y ≡ get_or xs 1 y → xs ≡ x ∷ y ∷ take (length xs - 2) (drop 2 xs)
+opened_twice [] x y lt e f = absurd (omega (arith, lt))
+opened_twice (a ∷ []) x y lt e f = absurd (omega (arith, lt))
+opened_twice (a ∷ b ∷ xs) x y lt e f =
+    let h : suc (suc (length xs)) - 2 ≡ length xs = omega arith in
+    let all : take (suc (suc (length xs)) - 2) xs ≡ xs = ap (λ n. take n xs) h ∙ take_all (length xs) xs (omega (arith)) in
+    λ i. sym e i ∷ sym f i ∷ sym all i

@@ -203,12 +203,16 @@ impl<
         requires { Nests F.Files T.Tables N.pre N.post self.now.by.now }
         ensures { Performs F.Files T.Tables (form.channel_work (means self.now.by.now) FilePutContents (trees_of args.now)) run.old (on_ok tree_of result) run.new }
     {
-        match args {
-            [Value::Text(path), Value::Text(data), rest @ ..] => {
-                Shelf { by: self.by }.put_contents(run, path.bytes(), data, flags_in(rest))
-            }
-            _ => unbuilt(&run.machine),
-        }
+        let [path, data, rest @ ..] = args else {
+            return unbuilt(&run.machine);
+        };
+        let Value::Text(path) = path else {
+            return unbuilt(&run.machine);
+        };
+        let Value::Text(data) = data else {
+            return unbuilt(&run.machine);
+        };
+        Shelf { by: self.by }.put_contents(run, path.bytes(), data, flags_in(rest))
     }
 
     // A file is read: its path is the first argument.
@@ -216,30 +220,39 @@ impl<
         requires { Nests F.Files T.Tables N.pre N.post self.now.by.now }
         ensures { Performs F.Files T.Tables (form.channel_work (means self.now.by.now) FileGetContents (trees_of args.now)) run.old (on_ok tree_of result) run.new }
     {
-        match args {
-            [Value::Text(path), ..] => Shelf { by: self.by }.get_contents(run, path.bytes()),
-            _ => unbuilt(&run.machine),
-        }
+        let [path, ..] = args else {
+            return unbuilt(&run.machine);
+        };
+        let Value::Text(path) = path else {
+            return unbuilt(&run.machine);
+        };
+        Shelf { by: self.by }.get_contents(run, path.bytes())
     }
 
     // A file is taken out: its path is the first argument.
     fn unlink_work(&self, run: &mut Run<F, T>, args: &[Value]) -> Result<Value, Stop>
         ensures { Performs F.Files T.Tables (form.channel_work (means self.now.by.now) Unlink (trees_of args.now)) run.old (on_ok tree_of result) run.new }
     {
-        match args {
-            [Value::Text(path), ..] => unlink(run, path.bytes()),
-            _ => unbuilt(&run.machine),
-        }
+        let [path, ..] = args else {
+            return unbuilt(&run.machine);
+        };
+        let Value::Text(path) = path else {
+            return unbuilt(&run.machine);
+        };
+        unlink(run, path.bytes())
     }
 
     // A file is looked for: its path is the first argument.
     fn exists_work(&self, run: &mut Run<F, T>, args: &[Value]) -> Result<Value, Stop>
         ensures { Performs F.Files T.Tables (form.channel_work (means self.now.by.now) FileExists (trees_of args.now)) run.old (on_ok tree_of result) run.new }
     {
-        match args {
-            [Value::Text(path), ..] => exists(run, path.bytes()),
-            _ => unbuilt(&run.machine),
-        }
+        let [path, ..] = args else {
+            return unbuilt(&run.machine);
+        };
+        let Value::Text(path) = path else {
+            return unbuilt(&run.machine);
+        };
+        exists(run, path.bytes())
     }
 
     // The work of a call.
@@ -279,7 +292,8 @@ impl<
     /// ChannelInCheck comes first, where a check, a merge or a filter that the runtime called makes the call, unless the function only looks. Then another count of
     /// arguments throws ArgumentCountError; the arguments are turned into their kinds from the left; the texts among them are charged; then comes the work; and the text that
     /// it gives is charged. ValueError is thrown for a status that may not be set, for a header line that sets no header, and for a mail whose address or subject has more
-    /// than one line. What leaves asks its filters and its policies, which may throw. UndefinedFunction comes for the functions of files and tables, which aren't built yet.
+    /// than one line. What leaves asks its filters and its policies, which may throw. A file that is read or written stops as `Shelf` says. UndefinedFunction comes for the functions of
+    /// tables, which aren't built yet.
     pub fn channel_function(
         &self,
         run: &mut Run<F, T>,

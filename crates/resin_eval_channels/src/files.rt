@@ -1,13 +1,14 @@
 //! Functions on files once their arguments are evaluated: policies are kept beside the bytes, and come back with them.
-ghost use Rattle.resin_eval_writes.specs.Under.meaning_forms.Files.{behind_found, behind_held, contents_of, exists, flags_in, get_contents, is_flag, put_contents, put_data, to_hold, unlink};
+ghost use Rattle.resin_eval_writes.specs.Under.meaning_forms.Files.{append_flag, behind_found, behind_held, contents_of, exists, flags_in, get_contents, is_flag, put_contents, put_data, to_hold, unlink};
 ghost use Rattle.resin_eval_writes.specs.Under.meaning_forms.Runs.{Runs, on_ok};
 ghost use Rattle.resin_eval_writes.specs.Under.eval_nested.Nested.{Nests, means};
 ghost use Rattle.resin_eval_writes.specs.Under.eval_nested.Running.{Performs};
 ghost use Rattle.resin_eval_writes.specs.Under.store.Entries.{lift};
 ghost use Rattle.resin_eval_writes.specs.Under.value.Seen.{tree_of, trees_of};
 ghost use Rattle.std.specs.Option.{option_map};
+ghost use Rattle.std.specs.Ordering.{int_eq};
 ghost use Rattle.resin_eval_channels.specs.Held.{IsHeld, marked};
-ghost use Rattle.std.specs.Prelude.{IfOk, ◌++◌, ◌≡◌};
+ghost use Rattle.std.specs.Prelude.{IfOk, length, ◌++◌, ◌≡◌};
 
 use resin_eval_writes::reading::{Reader, path_context};
 use resin_eval_writes::under::base::{Entry, Files, Tables};
@@ -16,7 +17,7 @@ use resin_eval_writes::under::eval_nested::nested::{Evaluator, Nested, Outcome};
 use resin_eval_writes::under::eval_nested::run::Run;
 use resin_eval_writes::under::heap::PreludeClass;
 use resin_eval_writes::under::journal::Channel;
-use resin_eval_writes::under::lstr::LText;
+use resin_eval_writes::under::lstr::{LText, MAX_LEN};
 use resin_eval_writes::under::machine::{Machine, Stop};
 use resin_eval_writes::under::scalar::ScriptFault;
 use resin_eval_writes::under::step_parts::reads::number;
@@ -30,7 +31,12 @@ use std::alloc::{AllocError, Global};
 /// FILE_APPEND
 const APPEND: i64 = 8;
 
-const MOST_TEXT: usize = 16_777_216;
+// Whether new bytes are to stand behind those that are held.
+fn is_append(flags: i64) -> bool
+    ensures { result ≡ int_eq flags append_flag }
+{
+    flags == APPEND
+}
 
 /// Whether a script may give these flags.
 pub(crate) fn is_flag(flags: i64) -> bool
@@ -58,7 +64,9 @@ struct Held {
 
 impl Held {
     // How many bytes there are, which is how many have policies told.
-    fn len(&self) -> usize {
+    fn len(&self) -> usize
+        ensures { result ≡ length self.now.bytes }
+    {
         self.bytes.as_slice().len()
     }
 }
@@ -79,13 +87,13 @@ fn behind_held(alloc: Global, m: &Machine, entry: &Entry, new: Held) -> Result<H
     ensures held { IfOk result IsHeld }
 {
     let len = entry.bytes.as_slice().len();
-    if len > MOST_TEXT {
+    if len > MAX_LEN {
         return Err(m.fault(ScriptFault::TextTooLong));
     }
     let Some(mut marks) = policies_of(alloc, entry)? else {
         return Err(m.fault(ScriptFault::BadShadow));
     };
-    if len + new.len() > MOST_TEXT {
+    if len + new.len() > MAX_LEN {
         return Err(m.fault(ScriptFault::TextTooLong));
     }
     let bytes = joined_bytes(alloc, entry.bytes.as_slice(), new.bytes.as_slice())?;
@@ -105,7 +113,7 @@ fn to_hold<F: Files, T: Tables>(
     ensures does { Performs F.Files T.Tables (to_hold path.now flags (marked new)) run.old (on_ok marked result) run.new }
     ensures held { IfOk result IsHeld }
 {
-    if flags != APPEND {
+    if !is_append(flags) {
         return Ok(new);
     }
     match run.read_file(path)? {
@@ -165,18 +173,19 @@ impl<
         &self,
         run: &mut Run<F, T>,
         path: &[u8],
-        data: &LText,
+        text: &LText,
         flags: i64,
     ) -> Result<Value, Stop>
         requires { Nests F.Files T.Tables N.pre N.post self.now.by.now }
-        ensures { Performs F.Files T.Tables (put_data (means self.now.by.now) path.now data.now flags) run.old (on_ok tree_of result) run.new }
+        ensures { Performs F.Files T.Tables (put_data (means self.now.by.now) path.now text.now flags) run.old (on_ok tree_of result) run.new }
     {
         let context = path_context(self.by.alloc, Channel::File, path)?;
-        let data = data.clone()?;
-        let kept = Reader { by: self.by }.keep_through(run, Channel::File, &context, data)?;
+        let given = text.clone()?;
+        let kept = Reader { by: self.by }.keep_through(run, Channel::File, &context, given)?;
         let marks = freeze_text(self.by.alloc, &run.machine, &kept)?;
         let bytes = Bytes::from_slice(self.by.alloc, kept.bytes())?;
         let held = to_hold(self.by.alloc, run, path, flags, Held { bytes, marks })?;
+        prove!(held.marks.len() == held.len() as u64);
         let shadow = encode(self.by.alloc, &held.marks)?;
         run.write_file(path, held.bytes.as_slice(), shadow.as_slice())?;
         Ok(number(kept.len() as i64))
@@ -192,16 +201,19 @@ impl<
         &self,
         run: &mut Run<F, T>,
         path: &[u8],
-        data: &LText,
+        text: &LText,
         flags: i64,
     ) -> Result<Value, Stop>
         requires { Nests F.Files T.Tables N.pre N.post self.now.by.now }
-        ensures { Performs F.Files T.Tables (put_contents (means self.now.by.now) path.now data.now flags) run.old (on_ok tree_of result) run.new }
+        ensures { Performs F.Files T.Tables (put_contents (means self.now.by.now) path.now text.now flags) run.old (on_ok tree_of result) run.new }
     {
-        if !lawful_path(path) || !is_flag(flags) {
+        if !lawful_path(path) {
             return run.machine.throw(PreludeClass::ValueError, b"");
         }
-        self.put_data(run, path, data, flags)
+        if !is_flag(flags) {
+            return run.machine.throw(PreludeClass::ValueError, b"");
+        }
+        self.put_data(run, path, text, flags)
     }
 }
 

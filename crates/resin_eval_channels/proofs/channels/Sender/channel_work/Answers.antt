@@ -55,20 +55,20 @@ returns-in-Mail g c =
 
 pub returns-in-FilePutContents : goal.returns-in-FilePutContents
 returns-in-FilePutContents g c =
-    does_is (ap (λ (x : ChannelFunction). channel_work (evals c.args.self.now.by.now.room) x (trees_of c.args.args.now)) c.in-FilePutContents.is) (does_unbuilt _ _ _ c.unbuilt.ensures)
+    does_is (ap (λ (x : ChannelFunction). channel_work (evals c.args.self.now.by.now.room) x (trees_of c.args.args.now)) c.in-FilePutContents.is) (c.put_work.ensures)
 
 pub returns-in-FileGetContents : goal.returns-in-FileGetContents
 returns-in-FileGetContents g c =
-    does_is (ap (λ (x : ChannelFunction). channel_work (evals c.args.self.now.by.now.room) x (trees_of c.args.args.now)) c.in-FileGetContents.is) (does_unbuilt _ _ _ c.unbuilt-in-FileGetContents.ensures)
+    does_is (ap (λ (x : ChannelFunction). channel_work (evals c.args.self.now.by.now.room) x (trees_of c.args.args.now)) c.in-FileGetContents.is) (c.get_work.ensures)
 
 pub returns-in-Unlink : goal.returns-in-Unlink
 returns-in-Unlink g c =
-    does_is (ap (λ (x : ChannelFunction). channel_work (evals c.args.self.now.by.now.room) x (trees_of c.args.args.now)) c.in-Unlink.is) (does_unbuilt _ _ _ c.unbuilt-in-Unlink.ensures)
+    does_is (ap (λ (x : ChannelFunction). channel_work (evals c.args.self.now.by.now.room) x (trees_of c.args.args.now)) c.in-Unlink.is) (c.unlink_work.ensures)
 
 pub returns-in-FileExists : goal.returns-in-FileExists
 returns-in-FileExists g c =
-    does_is (ap (λ (x : ChannelFunction). channel_work (evals c.args.self.now.by.now.room) x (trees_of c.args.args.now)) c.in-FileExists.is) (does_unbuilt _ _ _ c.unbuilt-in-FileExists.ensures)
+    does_is (ap (λ (x : ChannelFunction). channel_work (evals c.args.self.now.by.now.room) x (trees_of c.args.args.now)) c.in-FileExists.is) (c.exists_work.ensures)
 
 pub returns-in-SqlQuery : goal.returns-in-SqlQuery
 returns-in-SqlQuery g c =
-    does_is (ap (λ (x : ChannelFunction). channel_work (evals c.args.self.now.by.now.room) x (trees_of c.args.args.now)) c.in-SqlQuery.is) (does_unbuilt _ _ _ c.unbuilt-in-SqlQuery.ensures)
+    does_is (ap (λ (x : ChannelFunction). channel_work (evals c.args.self.now.by.now.room) x (trees_of c.args.args.now)) c.in-SqlQuery.is) (does_unbuilt _ _ _ c.unbuilt.ensures)

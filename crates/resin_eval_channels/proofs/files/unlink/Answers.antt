@@ -1,0 +1,19 @@
+use Rattle.resin_eval_writes.specs.Under.heap.declared.prelude.PreludeClass.TheVariants.{ValueError}
+use Rattle.resin_eval_writes.proofs.eval_nested_lemmas.Arms.{does_no, does_yes}
+use Rattle.resin_eval_writes.proofs.eval_nested_lemmas.Exits.{does_seen_exit}
+use Rattle.resin_eval_writes.proofs.meaning_lemmas.Composition.{does_give, does_next}
+use Rattle.resin_eval_writes.proofs.step_parts_lemmas.Steps.{thrown_seen}
+use Rattle.std.proofs.Common.{sym, ◌∙◌}
+use Rattle.resin_eval_channels.proofs.files.unlink.Goals as goal
+
+pub returns-then-not-lawful_path : goal.returns-then-not-lawful_path
+returns-then-not-lawful_path g c =
+    does_no _ _ _ (sym c.lawful_path.ensures ∙ c.if-not-lawful_path.true) (thrown_seen _ ValueError _ _ _ c.throw.ensures.acts _ _ _)
+
+pub returns-in_err-was : goal.returns-in_err-was
+returns-in_err-was g c =
+    does_yes _ _ _ (sym c.lawful_path.ensures ∙ c.if-not-lawful_path.false) (does_seen_exit _ _ _ _ c.from_residual.ensures.1 c.in_err-was.ensures)
+
+pub returns : goal.returns
+returns g c =
+    does_yes _ _ _ (sym c.lawful_path.ensures ∙ c.if-not-lawful_path.false) (does_next _ _ c.in_ok-was.ensures (does_give _ _))
