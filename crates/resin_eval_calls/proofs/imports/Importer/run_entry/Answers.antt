@@ -10,7 +10,7 @@ returns-in_err-src g c =
 
 pub source-requires-clause-short : goal.source-requires-clause-short
 source-requires-clause-short g c =
-    rw (c.bytes.ensures, length-map) (omega (arith, c.len-_len.ensures.value, c.len-_len.ensures.short))
+    rw (c.bytes.ensures, length-map) (omega (arith, c.len-len.ensures.value, c.len-len.ensures.short))
 
 pub returns-in_err-course : goal.returns-in_err-course
 returns-in_err-course g c =
