@@ -1,5 +1,5 @@
 -- Entries of an array that are put back, one after the other.
-use Rattle.std.proofs.Common.{◌≡◌, ℕ, zero, suc, ◌+◌, List, [], ◌∷◌, drop, Some, Result, Err, refl, ap, subst, IsErrAnd}
+use Rattle.std.proofs.Common.{◌≡◌, ℕ, zero, suc, ◌+◌, List, [], ◌∷◌, drop, Some, Result, Err, refl, ap, subst, IsErrAnd, ◌∙◌, arith}
 use Rattle.std.specs.Prelude.{slice_get, IsTrue}
 use Rattle.resin_eval_calls.specs.Under.value.declared.key.Key.{Key}
 use Rattle.resin_eval_calls.specs.Under.value.declared.value.Value.{Value}
@@ -26,7 +26,7 @@ pub entry_at : {A : Type 0} (es : List A) (i : ℕ) (e : A) → slice_get es i �
 entry_at [] zero e h = absurd (cc)
 entry_at [] (suc i) e h = absurd (cc)
 entry_at (x ∷ xs) zero e h = let k : x ≡ e = cc in ap (λ y. y ∷ xs) k
-entry_at (x ∷ xs) (suc i) e h = entry_at xs i e h
+entry_at (x ∷ xs) (suc i) e h = entry_at xs i e h ∙ ap (λ n. e ∷ drop n (x ∷ xs)) (let s : suc (i + 1) ≡ suc i + 1 = omega arith in s)
 
 -- a key of an array may stand in one
 pub lawful_at : (es : EntryList) (i : ℕ) (k : Key) (t : Tree) → AreLawful es → slice_get es i ≡ Some (k, t) → IsTrue (is_lawful k)

@@ -28,4 +28,4 @@ returns-in_err-assign-3 g c =
 
 pub returns : goal.returns
 returns g c =
-    does_next _ _ c.in_ok-get.ensures (does_next _ _ c.in_ok-post.ensures (does_next _ _ c.in_ok-cookie.ensures (does_next _ _ c.in_ok-server.ensures (does_next _ _ (does_act _ _ _ _ c.in_ok-assign.ensures.acts) (does_next _ _ (does_act _ _ _ _ c.in_ok-assign-2.ensures.acts) (does_next _ _ (does_act _ _ _ _ c.in_ok-assign-3.ensures.acts) (does_act _ _ _ _ c.assign.ensures.acts)))))))
+    does_next _ _ c.in_ok-get.ensures (does_next _ _ c.in_ok-post.ensures (does_next _ _ c.in_ok-cookie.ensures (does_next _ _ c.in_ok-server.ensures (does_next _ _ (does_act _ _ _ _ c.in_ok-assign.ensures.acts) (does_next _ _ (does_act _ _ _ _ c.in_ok-assign-2.ensures.acts) (does_next _ _ (does_act _ _ _ _ c.in_ok-assign-3.ensures.acts) (does_act _ _ _ _ c.assign-4.ensures.acts)))))))

@@ -1,6 +1,7 @@
 use Rattle.resin_eval_calls.proofs.meaning_lemmas.Composition.{does_give, does_next}
 use Rattle.resin_eval_calls.proofs.eval_nested_lemmas.Exits.{does_is, does_seen_exit, does_seen_none, does_seen_unbegun}
 use Rattle.resin_eval_calls.proofs.eval_nested_lemmas.Arms.{does_given}
+use Rattle.resin_eval_calls.specs.Under.meaning_forms.Programs.{evals}
 use Rattle.resin_eval_calls.specs.Under.value.Seen.{tree_of}
 use Rattle.resin_interp.proofs.InputLemmas.{no_text}
 use Rattle.std.proofs.Common.{ap}
@@ -20,8 +21,8 @@ returns-in_ok-read-in-Text g c =
 
 pub returns-in_err-clone-in_default : goal.returns-in_err-clone-in_default
 returns-in_err-clone-in_default g c =
-    does_is (no_text _ _ _ c.in_default.not-Text) (does_seen_none _ _ _ c.from_residual-in_err-clone-in_default.ensures.1)
+    does_is (no_text (evals c.args.self.now.by.now.room) c.args.context.now c.args.v.now c.in_default.not-Text) (does_seen_none _ _ _ c.from_residual-in_err-clone-in_default.ensures.1)
 
-pub returns-in_default : goal.returns-in_default
-returns-in_default g c =
-    does_is (no_text _ _ _ c.in_default.not-Text) (does_given _ _ (ap tree_of c.in_ok-clone-in_default.ensures.cases))
+pub returns-in_ok-clone-in_default : goal.returns-in_ok-clone-in_default
+returns-in_ok-clone-in_default g c =
+    does_is (no_text (evals c.args.self.now.by.now.room) c.args.context.now c.args.v.now c.in_default.not-Text) (does_given _ _ (ap tree_of c.in_ok-clone-in_default.ensures.cases))

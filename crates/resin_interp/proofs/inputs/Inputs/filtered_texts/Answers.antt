@@ -17,24 +17,24 @@ loop-i-init g c =
 
 pub entry-requires : goal.entry-requires
 entry-requires g c =
-    omega (arith, c.loop-i-test.true, c.len.ensures.value)
+    omega (arith, c.loop-i-test.true, c.len-i-end.ensures.value)
 
 pub returns-in_err-v : goal.returns-in_err-v
 returns-in_err-v g c =
-    c.loop-i.invariant.goes_on _ _ (does_is (ap (λ es. filtered_entries (λ k t. filtered_text (evals c.args.self.now.by.now.room) c.args.context.now t) es c.loop-i.all) (entry_at _ _ _ c.entry.ensures)) (does_exit _ _ _ c.from_residual-in_err-v.ensures.1 c.in_err-v.ensures))
+    c.loop-i.invariant.goes_on _ _ (does_is (ap (λ es. filtered_entries (λ k t. filtered_text (evals c.args.self.now.by.now.room) c.args.context.now t) es c.loop-i.all) (entry_at c.args.a.now.entries c.loop-i.i _ c.entry.ensures)) (does_exit _ _ _ c.from_residual-in_err-v.ensures.1 c.in_err-v.ensures))
 
-pub with_value-requires : goal.with_value-requires
-with_value-requires g c =
-    lawful_at _ _ _ _ c.len.ensures.kept.lawful c.entry.ensures
+pub with_value-put-requires : goal.with_value-put-requires
+with_value-put-requires g c =
+    lawful_at c.args.a.now.entries c.loop-i.i _ _ c.len-i-end.ensures.kept.lawful c.entry.ensures
 
 pub returns-in_err-all-2 : goal.returns-in_err-all-2
 returns-in_err-all-2 g c =
-    c.loop-i.invariant.goes_on _ _ (does_is (ap (λ es. filtered_entries (λ k t. filtered_text (evals c.args.self.now.by.now.room) c.args.context.now t) es c.loop-i.all) (entry_at _ _ _ c.entry.ensures)) (does_next _ _ c.in_ok-v.ensures (does_exit _ _ _ c.from_residual-in_err-all-2.ensures.1 (does_settled _ _ c.with_value-put.ensures c.in_err-all-2.ensures.acts))))
+    c.loop-i.invariant.goes_on _ _ (does_is (ap (λ es. filtered_entries (λ k t. filtered_text (evals c.args.self.now.by.now.room) c.args.context.now t) es c.loop-i.all) (entry_at c.args.a.now.entries c.loop-i.i _ c.entry.ensures)) (does_next _ _ c.in_ok-v.ensures (does_exit _ _ _ c.from_residual-in_err-all-2.ensures.1 (does_settled _ _ c.with_value-put.ensures c.in_err-all-2.ensures.acts))))
 
 pub loop-i-preserved : goal.loop-i-preserved
 loop-i-preserved g c =
-    record { goes_on = λ r w e. c.loop-i.invariant.goes_on r w (does_is (ap (λ es. filtered_entries (λ k t. filtered_text (evals c.args.self.now.by.now.room) c.args.context.now t) es c.loop-i.all) (entry_at _ _ _ c.entry.ensures)) (does_next _ _ c.in_ok-v.ensures (does_next _ _ (does_settled _ _ c.with_value-put.ensures c.in_ok-all-2.ensures.acts) e))) }
+    record { goes_on = λ r w e. c.loop-i.invariant.goes_on r w (does_is (ap (λ es. filtered_entries (λ k t. filtered_text (evals c.args.self.now.by.now.room) c.args.context.now t) es c.loop-i.all) (entry_at c.args.a.now.entries c.loop-i.i _ c.entry.ensures)) (does_next _ _ c.in_ok-v.ensures (does_next _ _ (does_settled _ _ c.with_value-put.ensures c.in_ok-all-2.ensures.acts) e))) }
 
 pub returns : goal.returns
 returns g c =
-    c.loop-i.invariant.goes_on _ _ (does_is (ap (λ es. filtered_entries (λ k t. filtered_text (evals c.args.self.now.by.now.room) c.args.context.now t) es c.loop-i.all) (nothing_left c.args.a.now.entries c.loop-i.i (omega (arith, c.loop-i-test.false, c.len.ensures.value)))) (does_give _ _))
+    c.loop-i.invariant.goes_on _ _ (does_is (ap (λ es. filtered_entries (λ k t. filtered_text (evals c.args.self.now.by.now.room) c.args.context.now t) es c.loop-i.all) (nothing_left c.args.a.now.entries c.loop-i.i (omega (arith, c.loop-i-test.false, c.len-i-end.ensures.value)))) (does_give _ _))
