@@ -1,5 +1,5 @@
 -- An evaluation by the room that is left.
-use Rattle.std.proofs.Common.{◌≡◌, ◌≢◌, ℕ, suc, ◌-◌, ◌<◌, ◌≤◌, List, length, Result, Ok, Err, refl, sym, ◌∙◌, subst, arith, Bor, IsErrAnd}
+use Rattle.std.proofs.Common.{◌≡◌, ◌≢◌, ℕ, suc, ◌-◌, min, ◌<◌, ◌≤◌, List, length, Result, Ok, Err, refl, sym, ◌∙◌, subst, arith, Bor, IsErrAnd}
 use Rattle.std.proofs.lemmas.Result.{err_from_is_err_and}
 use Rattle.std.specs.Prelude.{OnOk}
 use Rattle.resin_eval_calls.specs.Under.store.Files.{LabelledFiles}
@@ -73,6 +73,14 @@ rank (ForValue e) = 0
 rank (Asked e) = 0
 rank (Statement s) = 0
 rank (Source src) = 4
+
+pub source_rank : (n : Nested) (src : Bor (List ℕ)) → n ≡ Source src → min 4 (rank n) ≡ 4
+unfolding rank
+source_rank n src h = rw h refl
+
+pub statement_rank : (s : Bor Stmt) → min 4 (rank (Statement s)) ≡ 0
+unfolding rank
+statement_rank s = refl
 
 -- one more may be open
 pub open_expr : (room : ℕ) (e : Expr) {u v : World} {r : Result Value Stop} → room ≢ 0 → Does ((evals (suc (room - 1))).expr e) u r v → Does ((evals room).expr e) u r v

@@ -5,9 +5,9 @@ use Rattle.resin_eval_calls.specs.Under.meaning_forms.Invoke.{block}
 use Rattle.resin_eval_calls.specs.Under.meaning_forms.Programs.{evals}
 use Rattle.resin_eval_calls.specs.Under.meaning_forms.Sources.{source}
 use Rattle.resin_interp.proofs.Counts.{no_statement}
-use Rattle.resin_interp.proofs.Rooms.{shut, source_stopped, open_expr, open_soft, open_stmt, value_stopped, asked_stopped, statement_stopped}
+use Rattle.resin_interp.proofs.Rooms.{source_rank, statement_rank, shut, source_stopped, open_expr, open_soft, open_stmt, value_stopped, asked_stopped, statement_stopped}
 use Rattle.resin_interp.proofs.run.+walk.Goals as goal
-use Rattle.resin_interp.proofs.run.+walk.Goals.{in-Statement+in_ok-run_statement+in-Next, in_default}
+use Rattle.resin_interp.proofs.run.+walk.Goals.{run_items-in-Statement+in_ok-run_statement+in-Next, run_items-in_default}
 
 pub evaluation-returns-then-room-eq0 : goal.evaluation-returns-then-room-eq0
 evaluation-returns-then-room-eq0 g t c =
@@ -45,9 +45,17 @@ pub evaluation-returns-in_err-course : goal.evaluation-returns-in_err-course
 evaluation-returns-in_err-course g t c =
     rw c.in-Source.is (source_stopped c.args.room c.in-Source.src _ c.from_residual-in_err-course.ensures.1 (λ le. unfold source in does_next _ _ (c.in_ok-p.ensures le _) c.in_err-course.ensures))
 
-pub evaluation-returns-in_ok-course : goal.evaluation-returns-in_ok-course
-evaluation-returns-in_ok-course g t c =
+pub evaluation-returns-in-Source : goal.evaluation-returns-in-Source
+evaluation-returns-in-Source g t c =
     rw c.in-Source.is (λ le. unfold source in does_next _ _ (c.in_ok-p.ensures le _) c.in_ok-course.ensures)
+
+pub evaluation-run_file-requires : goal.evaluation-run_file-requires
+evaluation-run_file-requires g t c κs within =
+    (omega (arith, source_rank c.args.what c.in-Source.src c.in-Source.is), (within.0, within.1))
+
+pub run_statement-evaluation-requires : goal.run_statement-evaluation-requires
+run_statement-evaluation-requires g t c κs within =
+    (omega (arith, statement_rank c.args.s), (within.0, within.1))
 
 pub run_file-returns-in_err-declare_all : goal.run_file-returns-in_err-declare_all
 run_file-returns-in_err-declare_all g t c =
@@ -80,8 +88,8 @@ run_items-returns-in-Return g t c =
 pub run_items-loop-item-preserved : goal.run_items-loop-item-preserved
 run_items-loop-item-preserved g t c =
     elim c.match-item.branch [
-      | in-Statement+in_ok-run_statement+in-Next w ↦ record { goes_on = λ r u e. c.loop-item.invariant.goes_on r u (rw (front c.args.items.now c.loop-item.item-index c.item-item.result c.loop-item-test.true c.item-item.is) (rw w.in-Statement.is (does_next _ _ (w.in_ok-run_statement.ensures) (rw w.in-Next.is (rw w.run-is at e))))) }
-      | in_default w ↦ record { goes_on = λ r u e. c.loop-item.invariant.goes_on r u (rw (front c.args.items.now c.loop-item.item-index c.item-item.result c.loop-item-test.true c.item-item.is) (does_is (ap (block (evals c.args.room)) (no_statement c.item-item.result (drop (c.loop-item.item-index + 1) c.args.items.now) w.in_default.not-Statement)) (rw w.run-is at e))) }
+      | run_items-in-Statement+in_ok-run_statement+in-Next w ↦ record { goes_on = λ r u e. c.loop-item.invariant.goes_on r u (rw (front c.args.items.now c.loop-item.item-index c.item-item.result c.loop-item-test.true c.item-item.is) (rw w.in-Statement.is (does_next _ _ (w.in_ok-run_statement.ensures) (rw w.in-Next.is (rw w.run-is at e))))) }
+      | run_items-in_default w ↦ record { goes_on = λ r u e. c.loop-item.invariant.goes_on r u (rw (front c.args.items.now c.loop-item.item-index c.item-item.result c.loop-item-test.true c.item-item.is) (does_is (ap (block (evals c.args.room)) (no_statement c.item-item.result (drop (c.loop-item.item-index + 1) c.args.items.now) w.in_default.not-Statement)) (rw w.run-is at e))) }
     ]
 
 pub run_items-returns : goal.run_items-returns
