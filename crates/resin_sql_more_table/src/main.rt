@@ -11,13 +11,13 @@
 //! The output was made by Python's sqlite3, and by the rules alone where SQLite means something else: `tests/joint/rows.py`.
 #![tactic(auto)]
 
+mod item_values;
 mod shelf;
 mod show;
-mod values;
 
+use crate::item_values::push_values;
 use crate::shelf::Shelf;
 use crate::show::{push_answer, push_numbers};
-use crate::values::push_values;
 use resin_base::{Bytes, Cell, Stored, StoredCell};
 use resin_label::PSet;
 use resin_lstr::{Builder, LText, TextFault};
