@@ -35,17 +35,24 @@ fn column_of(alloc: Global, word: &str) -> Result<Column, AllocError> {
     })
 }
 
-fn make_table(alloc: Global, tables: &mut FakeTables, words: &str) -> Result<(), AllocError> {
+/// The columns as a table of the input has them.
+fn columns_of(alloc: Global, words: &str) -> Result<Columns, AllocError> {
     let mut columns = Columns::new(alloc);
-    let mut name = "";
-    for (i, word) in words.split(' ').enumerate() {
-        if i == 0 {
-            name = word;
-        } else {
-            columns.push(column_of(alloc, word)?)?;
-        }
+    for word in words.split(' ') {
+        columns.push(column_of(alloc, word)?)?;
     }
-    let _made = tables.create(name.as_bytes(), &columns).unwrap_or(false);
+    Ok(columns)
+}
+
+fn make_named(tables: &mut FakeTables, name: &str, columns: &Columns) {
+    let _made = tables.create(name.as_bytes(), columns).unwrap_or(false);
+}
+
+fn make_table(alloc: Global, tables: &mut FakeTables, words: &str) -> Result<(), AllocError> {
+    match words.split_once(' ') {
+        Some((name, columns)) => make_named(tables, name, &columns_of(alloc, columns)?),
+        None => make_named(tables, words, &Columns::new(alloc)),
+    }
     Ok(())
 }
 
