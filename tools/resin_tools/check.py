@@ -8,7 +8,7 @@ from .fault import Wrong
 from .left_out import instead_of_form, otherwise
 from .names import early_parents, unknown_names, wrong_counts
 from .php import Token, read_source
-from .runtime_names import FUNCTIONS_NOT_BUILT, IMPORTS_NOT_BUILT
+from .runtime_names import FUNCTIONS_NOT_BUILT
 from .scripts import Finding, Script
 
 _INPUT = re.compile(r"\$_(?:GET|POST|COOKIE|SERVER)\b")
@@ -106,9 +106,8 @@ def not_built(script: Script) -> Iterator[Finding]:
     code = [Token("op", ";", 0), *script.read, Token("op", ";", len(script.source))]
     for before, token, behind in zip(code, code[1:], code[2:]):
         name = token.text.lower() if token.kind == "name" else ""
-        is_call = name in FUNCTIONS_NOT_BUILT and behind.text == "(" and before.text != "->" and before.text.lower() != "function"
-        if is_call or name in IMPORTS_NOT_BUILT:
-            yield script.warning(token.start, f"{name} isn't built yet: a run ends at the first request for this script")
+        if name in FUNCTIONS_NOT_BUILT and behind.text == "(" and before.text != "->" and before.text.lower() != "function":
+            yield script.warning(token.start, f"{name} isn't built yet: its call is the fault UndefinedFunction")
 
 
 # ---- boot.php

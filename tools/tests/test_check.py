@@ -13,7 +13,7 @@ from resin_tools.check import faults, read_otherwise
 from resin_tools.checker import Fault, find_fault
 from resin_tools.left_out import FORMS, LESS, NAMES, OTHERWISE, instead_of
 from resin_tools.php import Lines, read_source, tokens
-from resin_tools.runtime_names import CLASSES, CONSTANTS, COUNTS, FUNCTIONS, FUNCTIONS_NOT_BUILT, IMPORTS_NOT_BUILT, KEYWORDS, SERVER_KEYS
+from resin_tools.runtime_names import CLASSES, CONSTANTS, COUNTS, FUNCTIONS, FUNCTIONS_NOT_BUILT, KEYWORDS, SERVER_KEYS
 from resin_tools.scripts import Script
 
 TOP = TOOLS.parent
@@ -81,7 +81,7 @@ class Tables(unittest.TestCase):
 
     def test_the_page_tells_the_functions_and_what_they_take(self):
         told: dict[str, str] = {}
-        for head in ("Builtin functions", "Filters", "Headers, the status, mail and buffers", "Policies"):
+        for head in ("Builtin functions", "Files", "Filters", "Headers, the status, mail and buffers", "Policies"):
             for row in rows(section(head)):
                 cell = row.split(" | ")[0]
                 shared = re.search(r"`\(([^)]*)\)`", cell)
@@ -89,6 +89,8 @@ class Tables(unittest.TestCase):
                 told |= dict(re.findall(r"`(\w+)\(([^`]*)\)`", cell))
         for method in ("export_check", "merge", "filter_write", "filter_func", "filter_read"):
             del told[method]
+        for channel in ("http", "email", "file", "code", "input"):
+            del told[channel]
         self.assertEqual({name: self.counts(parameters) for name, parameters in told.items()}, COUNTS)
 
     def counts(self, parameters: str) -> tuple[int, int | None]:
@@ -97,12 +99,9 @@ class Tables(unittest.TestCase):
         return least, None if ".." in words else len(words)
 
     def test_the_page_tells_the_classes_and_what_is_not_built(self):
-        self.assertEqual({found[1] for row in rows(section("Exceptions")) if (found := re.match(r"\| `(\w+)`", row))} | {"Policy", "NoExport", "Filter"}, CLASSES)
-        self.assertEqual(set(re.findall(r"`(\w+)`", section("Not built yet"))), FUNCTIONS_NOT_BUILT)
-        self.assertIn("The imports", section("Not built yet"))
-        imports = re.search(r"The imports are (.*?)\. An", section("Expressions"), re.S)
-        assert imports
-        self.assertEqual(set(re.findall(r"`(\w+)`", imports[1])), IMPORTS_NOT_BUILT)
+        self.assertEqual({found[1] for row in rows(section("Exceptions")) if (found := re.match(r"\| `(\w+)`", row))} | {"Policy", "NoExport", "LostPolicy", "Filter"}, CLASSES)
+        page = (TOP / "docs" / "LANGUAGE.md").read_text()
+        self.assertEqual(set(re.findall(r"^\| `(\w+)` \| `UndefinedFunction`: it isn't built yet", page, re.M)), FUNCTIONS_NOT_BUILT)
         server = re.search(r"- `\$_SERVER` has (.*)", (TOP / "docs" / "FORMATS.md").read_text())
         assert server
         self.assertEqual(set(re.findall(r"`(\w+)`", server[1])), SERVER_KEYS)
@@ -382,9 +381,7 @@ class Names(Marked):
     def test_what_is_not_built(self):
         self.put("site/a.php", "<?php $a = sql_query('SELECT 1');\ninclude 'b.php';\n$a->unlink('c');")
         heads = self.heads("a.php")
-        not_built = FUNCTIONS_NOT_BUILT | IMPORTS_NOT_BUILT
-        wanted = [(place, name) for place, name in (("1:12", "sql_query"), ("2:1", "include")) if name in not_built]
-        self.assertEqual(heads, [f"{place}: warning: {name} isn't built yet: a run ends at the first request for this script" for place, name in wanted])
+        self.assertEqual(heads, ["1:12: warning: sql_query isn't built yet: its call is the fault UndefinedFunction"])
 
 
 class Guards(Marked):
