@@ -9,7 +9,6 @@ import reading
 
 
 def write(folder, rows):
-    os.makedirs(folder, exist_ok=True)
     for name, at in (("stdin", 0), ("stdout", 1)):
         with open(os.path.join(folder, name), "w", encoding="utf-8") as out:
             out.writelines(row[at] + "\n" for row in rows)
