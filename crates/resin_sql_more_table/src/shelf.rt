@@ -48,6 +48,14 @@ fn make_named(tables: &mut FakeTables, name: &str, columns: &Columns) {
     let _made = tables.create(name.as_bytes(), columns).unwrap_or(false);
 }
 
+/// The name of a table of the input.
+fn name_of(alloc: Global, words: &str) -> Result<Bytes, AllocError> {
+    match words.split_once(' ') {
+        Some((name, _)) => Bytes::from_slice(alloc, name.as_bytes()),
+        None => Bytes::from_slice(alloc, words.as_bytes()),
+    }
+}
+
 fn make_table(alloc: Global, tables: &mut FakeTables, words: &str) -> Result<(), AllocError> {
     match words.split_once(' ') {
         Some((name, columns)) => make_named(tables, name, &columns_of(alloc, columns)?),
@@ -59,14 +67,14 @@ fn make_table(alloc: Global, tables: &mut FakeTables, words: &str) -> Result<(),
 fn add_row(
     alloc: Global,
     tables: &mut FakeTables,
-    table: &str,
+    table: &[u8],
     words: &str,
 ) -> Result<(), AllocError> {
     let mut cells = Cells::new(alloc);
     for word in words.split(' ') {
         cells.push(cell_of(alloc, word)?)?;
     }
-    let _number = tables.insert(table.as_bytes(), &cells).unwrap_or(None);
+    let _number = tables.insert(table, &cells).unwrap_or(None);
     Ok(())
 }
 
@@ -118,14 +126,14 @@ impl Shelf {
     /// What the fields of a line set.
     pub(crate) fn set(alloc: Global, line: &str) -> Result<Shelf, AllocError> {
         let mut tables = FakeTables::new(alloc, failing(alloc, line)?);
-        let mut table = "";
+        let mut table = Bytes::new(alloc);
         for field in line.split('|') {
             if let Some(words) = field.strip_prefix("table ") {
-                table = words.split(' ').next().unwrap_or("");
+                table = name_of(alloc, words)?;
                 make_table(alloc, &mut tables, words)?;
             }
             if let Some(words) = field.strip_prefix("row ") {
-                add_row(alloc, &mut tables, table, words)?;
+                add_row(alloc, &mut tables, table.as_slice(), words)?;
             }
         }
         Ok(Shelf {
