@@ -1,0 +1,5 @@
+pub mod Texts
+pub mod Sessions
+pub mod Reading
+pub mod Answers
+pub mod Laws
