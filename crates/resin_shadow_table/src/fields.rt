@@ -21,26 +21,28 @@ pub fn bytes_in(alloc: Global, field: &str) -> Result<Vec<u8>, AllocError> {
     let mut out = Vec::new(alloc);
     let mut escape = false;
     for b in field.as_bytes() {
-        if escape {
-            out.push(escaped(*b))?;
-            escape = false;
-        } else if *b == b'\\' {
-            escape = true;
-        } else {
-            out.push(*b)?;
+        let begins = *b == b'\\' && !escape;
+        if !begins {
+            out.push(if escape { escaped(*b) } else { *b })?;
         }
+        escape = begins;
     }
     Ok(out)
 }
 
 /// The integer that a field spells.
 pub fn integer_in(field: &str) -> Result<i64, Stop> {
-    field.parse::<i64>().map_err(|_| Stop::Unreadable)
+    Ok(field.parse::<i64>()?)
 }
 
-/// The number of a policy or an object.
+/// The number of bytes that a field spells.
+pub fn length_in(field: &str) -> Result<u64, Stop> {
+    Ok(field.parse::<u64>()?)
+}
+
+/// The number that a field spells: of a policy, of an object, or of a count.
 pub fn number_in(field: &str) -> Result<u32, Stop> {
-    field.parse::<u32>().map_err(|_| Stop::Unreadable)
+    Ok(field.parse::<u32>()?)
 }
 
 /// The set of the digits of a text, put together in their order.
@@ -54,9 +56,8 @@ pub fn digits_in(alloc: Global, digits: &str) -> Result<PSet, AllocError> {
 
 fn append_piece(alloc: Global, out: Builder, piece: &str) -> Result<Builder, TextFault> {
     let (field, digits) = piece.split_once('{').unwrap_or((piece, ""));
-    let bytes = bytes_in(alloc, field)?;
     let set = digits_in(alloc, digits)?;
-    out.append_bytes(&bytes, &set)
+    out.append_bytes(&bytes_in(alloc, field)?, &set)
 }
 
 /// The labelled text that a field spells.

@@ -18,6 +18,8 @@
 #![tactic(auto)]
 
 mod fields;
+mod many;
+mod off;
 mod policies;
 mod shadows;
 mod stop;
@@ -38,8 +40,8 @@ fn answer(alloc: Global, out: &mut String, row: &[&str]) -> Result<(), Stop> {
         "encode" => shadows::push_encoded(alloc, out, row.get(1..).unwrap_or(&[])),
         "runs" => shadows::push_joined(alloc, out, row.get(1..).unwrap_or(&[])),
         "decode" => shadows::push_decoded(alloc, out, argument, second),
-        "off" => shadows::push_off(alloc, out, argument, second),
-        "many" => shadows::push_many(alloc, out, row.get(1..).unwrap_or(&[])),
+        "off" => off::push_off(alloc, out, argument, second),
+        "many" => many::push_many(alloc, out, row.get(1..).unwrap_or(&[])),
         _ => Err(Stop::Unreadable),
     }
 }

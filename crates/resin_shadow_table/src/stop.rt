@@ -1,8 +1,10 @@
 //! Why a row has no answer.
 
+use resin_frozen::Stop as ReadStop;
 use resin_value::ArrFault;
 use resin_value::under::lstr::TextFault;
 use std::alloc::AllocError;
+use std::num::ParseIntError;
 
 /// Why a call gives no answer.
 #[derive(Clone, Copy)]
@@ -36,6 +38,21 @@ impl From<TextFault> for Stop {
 
 impl From<ArrFault> for Stop {
     fn from(_fault: ArrFault) -> Stop {
+        Stop::Unreadable
+    }
+}
+
+impl From<ReadStop> for Stop {
+    fn from(stop: ReadStop) -> Stop {
+        match stop {
+            ReadStop::Form => Stop::Unreadable,
+            ReadStop::Memory => Stop::Memory,
+        }
+    }
+}
+
+impl From<ParseIntError> for Stop {
+    fn from(_error: ParseIntError) -> Stop {
         Stop::Unreadable
     }
 }
