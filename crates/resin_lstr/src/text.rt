@@ -222,14 +222,14 @@ impl LText {
     pub fn distinct_sets(&self, alloc: Global) -> Result<Sets, AllocError>
         ensures { IfOk result (λ sets. sets ≡ distinct_sets self.now) }
     {
-        Ok(Sets::from_vec(sets_once(alloc, &self.runs)?))
+        sets_once(alloc, &self.runs)
     }
 
     /// The policies of the text, each once, by the first byte that carries them and then by number.
     pub fn policies_in_order(&self, alloc: Global) -> Result<Numbers, AllocError>
         ensures { IfOk result (λ list. list ≡ policies_in_order self.now) }
     {
-        Ok(Numbers::from_vec(numbers_once(alloc, &self.runs)?))
+        numbers_once(alloc, &self.runs)
     }
 
     /// The first maximal range of bytes that carry `n`, as its start and its end, which is not included. `None` where no
