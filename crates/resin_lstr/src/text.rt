@@ -1,11 +1,12 @@
 //! Labelled texts.
 ghost use Rattle.std.specs.Prelude.{◌≡◌, ◌==◌, ℕ, ◌-◌, ◌<◌, ◌≤◌, ◌++◌, length, map, slice_index, slice_index_or, slice_range, IfOk};
 ghost use Rattle.resin_label.specs.Sets.{empty};
-ghost use Rattle.resin_lstr.specs.Texts.{LONGEST, bytes_of, sets_of, carrying, marked, unmarked, mapped, with_parts, ArePartsFrom, distinct_sets, policies_in_order, first_run};
+ghost use Rattle.resin_lstr.specs.Texts.{bytes_of, sets_of, carrying, marked, unmarked, mapped, with_parts, ArePartsFrom, distinct_sets, policies_in_order, first_run};
 ghost use Rattle.resin_lstr.specs.Tables.{replaced};
 ghost use Rattle.resin_lstr.specs.Faults.{GivesText};
 
 use crate::builder::Builder;
+use crate::limits::LONGEST;
 use crate::lists::{Numbers, Parts, Sets};
 use crate::replace::replace_each;
 use crate::runs::{numbers_once, range_holding, run_at, runs_with, runs_without, sets_once};
@@ -14,9 +15,6 @@ use resin_label::PSet;
 use std::alloc::{AllocError, Global};
 use std::marker::Model;
 use std::rc::RcSlice;
-
-/// The length of the longest text, in bytes.
-pub const MAX_LEN: usize = 16_777_216;
 
 /// Why a call gives no text.
 #[derive(Clone, Copy, Debug, PartialEq, Eq)]
@@ -83,7 +81,7 @@ impl LText {
     pub fn with_set(alloc: Global, b: &[u8], s: &PSet) -> Result<LText, TextFault>
         ensures { GivesText result (carrying s.now b.now) }
     {
-        if b.len() > MAX_LEN {
+        if b.len() > LONGEST {
             return Err(TextFault::TooLong);
         }
         let out = Builder::new(alloc).add_bytes(b, s)?;

@@ -13,6 +13,7 @@
 
 mod heights;
 mod kinds;
+mod parity;
 mod parts;
 mod sums;
 mod words;
