@@ -21,7 +21,8 @@ doubled (b ∷ w) = if b == 39 then 39 ∷ 39 ∷ doubled w else b ∷ doubled w
 pub data Requoted : List ℕ → List ℕ → Type 0 where
   done : Requoted [] []
   same : {b : ℕ} {r s : List ℕ} → (b == 39) ≡ false → Requoted r s → Requoted (b ∷ r) (b ∷ s)
-  other : (w v : List ℕ) {r s bs cs : List ℕ} → bs ≡ doubled w ++ 39 ∷ r → cs ≡ doubled v ++ 39 ∷ s → NotBefore (λ b. b == 39) r → Requoted r s → Requoted (39 ∷ bs) (39 ∷ cs)
+  other : (w v : List ℕ) {r s bs cs : List ℕ} → bs ≡ doubled w ++ 39 ∷ r → cs ≡ doubled v ++ 39 ∷ s → NotBefore (λ b. b == 39) r
+      → Requoted r s → Requoted (39 ∷ bs) (39 ∷ cs)
 
 -- ---- a statement without what its text literals hold, and without where its literals stand
 
