@@ -60,10 +60,13 @@ shape_of_rows rows = map (λ row. map shape_of_literal row) rows
 abbrev pub shape_of : Stmt → Stmt
 shape_of (s.Create x) = s.Create x
 shape_of (s.Insert x) = s.Insert (record { table = x.table; columns = x.columns; rows = shape_of_rows x.rows })
-shape_of (s.Select x) = s.Select (record { columns = x.columns; table = x.table; condition = shape_of_where x.condition; order = x.order; limit = x.limit })
+shape_of (s.Select x) =
+    s.Select (record { columns = x.columns; table = x.table; condition = shape_of_where x.condition; order = x.order; limit = x.limit })
 shape_of (s.Update x) = s.Update (record { table = x.table; changes = map shape_of_change x.changes; condition = shape_of_where x.condition })
 shape_of (s.Delete x) = s.Delete (record { table = x.table; condition = shape_of_where x.condition })
 
 -- a statement with other texts between its quotes is a statement that differs in text literals alone
 abbrev pub KeepsStatement : (List ℕ → Stmt → Type 0) → Type 0
-KeepsStatement IsStatement = (bytes others : List ℕ) (q : Stmt) → IsStatement bytes q → Requoted bytes others → (p : Stmt) × IsStatement others p × (shape_of p ≡ shape_of q)
+KeepsStatement IsStatement =
+    (bytes others : List ℕ) (q : Stmt) → IsStatement bytes q → Requoted bytes others
+    → (p : Stmt) × IsStatement others p × (shape_of p ≡ shape_of q)
