@@ -43,7 +43,7 @@ pub data InCode (at : ℕ) : Option TokenKind → Act → List ℕ → List ℕ 
   mark : {rest : List ℕ} → (mark : Mark) → goes_on mark rest ≡ false → InCode at (Some (k.Mark mark)) (act_of mark) (spelling mark) rest
   cast : (before word behind : List ℕ) {rest : List ℕ} {cast : Cast} → Every is_space before → Every is_name_byte word
       → cast_of word ≡ Some cast → Every is_space behind
-      → InCode at (Some (k.Cast cast)) Stay (codes "(" ++ before ++ word ++ behind ++ codes ")") rest
+      → InCode at (Some (k.Cast cast)) Stay (codes "(" ++ (before ++ (word ++ (behind ++ codes ")")))) rest
   single : {body rest text : List ℕ} → Stretch stop.Single body (codes "'" ++ rest) → Spells q.Single body text
       → InCode at (Some (k.Text text)) Stay (codes "'" ++ body ++ codes "'") rest
   double : {body rest text : List ℕ} → Stretch stop.Part body (codes "\"" ++ rest) → Spells q.Double body text

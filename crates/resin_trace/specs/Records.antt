@@ -35,7 +35,7 @@ pub record PieceText (text : List ℕ) (conn : ℕ) (bytes : List ℕ) : Type 0 
   pub high : conn ≤ 1000
   pub size_is : Numeral size (length bytes)
   pub small : length bytes ≤ 1048576
-  pub is : text ≡ head ++ codes " " ++ size ++ codes "\n" ++ bytes ++ codes "\n"
+  pub is : text ≡ head ++ (codes " " ++ (size ++ (codes "\n" ++ (bytes ++ codes "\n"))))
 
 -- the end of a connection: `CONN end`
 pub record EndText (text : List ℕ) (conn : ℕ) : Type 0 where
