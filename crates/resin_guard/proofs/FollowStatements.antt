@@ -120,12 +120,12 @@ insert_follows = and_then (word_follows (codes "nsert") refl) (λ g. and_then (a
 abbrev chosen_shape : Chosen → Chosen
 chosen_shape x = (shape_of_where x.0, x.1)
 
-behind_where_follows : (orders : Bool) → Follows chosen_shape (f.behind_where orders) (f.behind_where orders)
+behind_where_follows : (orders : Bool) → Follows chosen_shape (f.behind_where name_from orders) (f.behind_where name_from orders)
 unfolding f.behind_where
 behind_where_follows orders = and_then (word_follows (codes "here") refl) (λ g. followed_by (any_of_follows (atom name_from 50) (λ free. atom_follows name_from name_from_follows 50 free) orders g)
     (λ a b k. gives (pair (chosen_shape (Some b.0, b.1)) (chosen_shape (Some a.0, a.1)) (ap (λ (x : Condition). Some x) (ap (λ (x : Condition × Behind). x.0) k)) (ap (λ (x : Condition × Behind). x.1) k))))
 
-chosen_follows : (orders free : Bool) → Follows chosen_shape (f.chosen orders free) (f.chosen orders free)
+chosen_follows : (orders free : Bool) → Follows chosen_shape (f.chosen name_from orders free) (f.chosen name_from orders free)
 unfolding f.chosen
 chosen_follows orders free = maybes (λ n m b. refl) (λ n. refl) (λ n m b. behind_where_follows orders) refl
 
@@ -229,10 +229,10 @@ update_alike : (table : List ℕ) (xs ys : List Change) (v w : Option Condition)
     → shape_of (s.Update (record { table = table; changes = ys; condition = w })) ≡ shape_of (s.Update (record { table = table; changes = xs; condition = v }))
 update_alike table xs ys v w e k = ap (λ (zs : List Change). s.Update (record { table = table; changes = zs; condition = shape_of_where w })) e ∙ ap (λ (z : Option Condition). s.Update (record { table = table; changes = map shape_of_change xs; condition = z })) k
 
-update_behind : (table : List ℕ) (a b : Ended (List Change)) → changes_shape b ≡ changes_shape a → Follows shape_of (f.chosen false a.1 >>= λ w. give (s.Update (record { table = table; changes = a.0; condition = w.0 }))) (f.chosen false b.1 >>= λ w. give (s.Update (record { table = table; changes = b.0; condition = w.0 })))
+update_behind : (table : List ℕ) (a b : Ended (List Change)) → changes_shape b ≡ changes_shape a → Follows shape_of (f.chosen name_from false a.1 >>= λ w. give (s.Update (record { table = table; changes = a.0; condition = w.0 }))) (f.chosen name_from false b.1 >>= λ w. give (s.Update (record { table = table; changes = b.0; condition = w.0 })))
 update_behind table a b k =
     let same : b.1 ≡ a.1 = ap (λ (x : Ended (List Change)). x.1) k in
-    followed_by (subst (λ free. Follows chosen_shape (f.chosen false a.1) (f.chosen false free)) (sym same) (chosen_follows false a.1))
+    followed_by (subst (λ free. Follows chosen_shape (f.chosen name_from false a.1) (f.chosen name_from false free)) (sym same) (chosen_follows false a.1))
     (λ v w e. gives (update_alike table a.0 b.0 v.0 w.0 (ap (λ (x : Ended (List Change)). x.0) k) (ap (λ (x : Chosen). x.0) e)))
 
 update_follows : Follows shape_of f.update f.update

@@ -5,27 +5,27 @@ use Rattle.resin_base.specs.declared.faults.KeepFault.TheVariants as fault
 use Rattle.resin_sql.specs.declared.fault.SqlStop.{SqlStop}
 use Rattle.resin_plan.specs.declared.answer.SqlAnswer.{SqlAnswer}
 use Rattle.resin_plan.specs.TableCalls.{TableCall, Answer, Keeping, IsCalled}
-use Rattle.resin_plan.specs.Plans.{Plan, Leads, here, behind, Ends, answered, refused, failed, spent, wanting, wanting_in_call}
+use Rattle.resin_plan.specs.Plans.{Steps, Plan, Leads, here, behind, Ends, answered, refused, failed, spent, wanting, wanting_in_call}
 use Rattle.resin_plan.specs.Blame.{NoneFailed, LastFailed, Blames}
 
-none-then : {u v w : Keeping} → NoneFailed u v → NoneFailed v w → NoneFailed u w
+pub none-then : {u v w : Keeping} → NoneFailed u v → NoneFailed v w → NoneFailed u w
 none-then a b = record { failed = b.failed ∙ a.failed; faults = b.faults ∙ a.faults; made = omega (arith, a.made, b.made) }
 
 called-ok : {v w : Keeping} (call : TableCall) (answer : Answer call) → IsCalled call v (Ok answer) w → NoneFailed v w
 called-ok call answer c = record { failed = c.listed.1; faults = c.cause; made = omega (arith, c.listed.0) }
 
-called-memory : {v w : Keeping} (call : TableCall) → IsCalled call v (Err fault.Memory) w → NoneFailed v w
+pub called-memory : {v w : Keeping} (call : TableCall) → IsCalled call v (Err fault.Memory) w → NoneFailed v w
 called-memory {v = v} {w = w} call c = record {
   failed = ap (λ (x : Calls). x.failed) c.listed;
   faults = c.cause;
   made = let e : w.calls.made ≡ v.calls.made = ap (λ (x : Calls). x.made) c.listed in omega (arith, e);
 }
 
-leads-none : {p : Plan} {u : Keeping} {q : Plan} {v : Keeping} → Leads p u q v → NoneFailed u v
+pub leads-none : {A : Type 0} {p : Steps A} {u : Keeping} {q : Steps A} {v : Keeping} → Leads p u q v → NoneFailed u v
 leads-none here = record { failed = refl; faults = refl; made = omega arith }
 leads-none (behind {call = call} {answer = answer} l c) = none-then (leads-none l) (called-ok call answer c)
 
-last-then : {u v w : Keeping} (call : TableCall) → NoneFailed u v → IsCalled call v (Err fault.Failed) w → LastFailed u w
+pub last-then : {u v w : Keeping} (call : TableCall) → NoneFailed u v → IsCalled call v (Err fault.Failed) w → LastFailed u w
 last-then {u = u} {v = v} {w = w} call a c = record {
   failed = c.listed.1 ∙ (ap (λ ns. ns ++ (v.calls.made + 1) ∷ []) a.failed ∙ ap (λ n. u.calls.failed ++ n ∷ []) (sym c.listed.0));
   faults = rw (← a.faults) c.cause;

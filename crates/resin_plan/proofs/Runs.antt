@@ -16,7 +16,7 @@ use Rattle.resin_base.specs.declared.cell.Column.{Column}
 use Rattle.resin_base.specs.declared.cell.Row.{Row}
 use Rattle.resin_plan.specs.Statements.{on_table}
 use Rattle.resin_plan.specs.TableCalls.{TableCall, MakeTable, AskRows, Answer, Changes, Keeping, keeping, Makes, makes, Asks, ended}
-use Rattle.resin_plan.specs.Plans.{Plan, Ask, give, refuse, unless, passed, Leads, here, behind, Ends, answered, refused, failed, spent, wanting, wanting_in_call, GoesOn}
+use Rattle.resin_plan.specs.Plans.{Steps, Plan, Ask, give, refuse, unless, passed, Leads, here, behind, Ends, answered, refused, failed, spent, wanting, wanting_in_call, GoesOn}
 
 -- ---- one call
 
@@ -43,7 +43,7 @@ makes_asked call s s' f f' a a' c c' (Err fault.Memory) room listed contents cau
 
 -- ---- one part and then another
 
-pub leads_then : {p q : Plan} {u v : Keeping} {s : Plan} {w : Keeping} → Leads p u q v → Leads q v s w → Leads p u s w
+pub leads_then : {A : Type 0} {p q : Steps A} {u v : Keeping} {s : Steps A} {w : Keeping} → Leads p u q v → Leads q v s w → Leads p u s w
 leads_then l here = l
 leads_then l (behind m c) = behind (leads_then l m) c
 
@@ -56,7 +56,7 @@ ends_then l (wanting m) = wanting (leads_then l m)
 ends_then l (wanting_in_call m c) = wanting_in_call (leads_then l m) c
 
 -- a call that was answered leads on
-pub leads_on : {p : Plan} {u v w : Keeping} (call : TableCall) (next : Answer call → Plan) (answer : Answer call) → Leads p u (Ask call next) v → Makes call v (Ok answer) w → Leads p u (next answer) w
+pub leads_on : {A : Type 0} {p : Steps A} {u v w : Keeping} (call : TableCall) (next : Answer call → Steps A) (answer : Answer call) → Leads p u (Ask call next) v → Makes call v (Ok answer) w → Leads p u (next answer) w
 leads_on call next answer l (makes c) = behind l c
 
 -- a call that wasn't ends the run
@@ -143,5 +143,5 @@ renamed {v = v} {w = w} {r = r} rest cs columns ns names e f d =
     subst (λ (x : List Column). Ends (rest x names) v r w) e (subst (λ (x : List (List ℕ)). Ends (rest cs x) v r w) f d)
 
 -- another name of what is left
-pub leads_same : {p q q' : Plan} {u v : Keeping} → q ≡ q' → Leads p u q v → Leads p u q' v
-leads_same {p = p} {u = u} {v = v} e l = subst (λ (x : Plan). Leads p u x v) e l
+pub leads_same : {A : Type 0} {p q q' : Steps A} {u v : Keeping} → q ≡ q' → Leads p u q v → Leads p u q' v
+leads_same {A = A} {p = p} {u = u} {v = v} e l = subst (λ (x : Steps A). Leads p u x v) e l

@@ -52,7 +52,7 @@ insert_turn {p = p} {u = u} {v = v} table columns names rows i r left own others
 
 -- ---- SELECT
 
-map-limited : {A B : Type 0} (f : A → B) (l : Option ℕ) (xs : List A) → map f (limited l xs) ≡ limited l (map f xs)
+pub map-limited : {A B : Type 0} (f : A → B) (l : Option ℕ) (xs : List A) → map f (limited l xs) ≡ limited l (map f xs)
 map-limited f None xs = refl
 map-limited {A = A} f (Some n) xs = map-take n xs
   where
@@ -61,7 +61,7 @@ map-limited {A = A} f (Some n) xs = map-take n xs
     map-take (suc n) [] = refl
     map-take (suc n) (y ∷ ys) = ap (λ zs. f y ∷ zs) (map-take n ys)
 
-map-map : {A B C : Type 0} (f : A → B) (g : B → C) (xs : List A) → map g (map f xs) ≡ map (λ x. g (f x)) xs
+pub map-map : {A B C : Type 0} (f : A → B) (g : B → C) (xs : List A) → map g (map f xs) ≡ map (λ x. g (f x)) xs
 map-map f g [] = refl
 map-map f g (x ∷ xs) = ap (λ ys. g (f x) ∷ ys) (map-map f g xs)
 

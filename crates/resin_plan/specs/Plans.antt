@@ -9,11 +9,16 @@ use Rattle.resin_sql.specs.declared.fault.SqlStop.TheVariants.{Refused, Keeper, 
 use Rattle.resin_plan.specs.declared.answer.SqlAnswer.{SqlAnswer}
 use Rattle.resin_plan.specs.TableCalls.{TableCall, Answer, Keeping, IsCalled}
 
-pub data Plan : Type 0 where
-  -- the statement has this answer, or is refused
-  Done : Result SqlAnswer SqlRefusal → Plan
+-- keeper calls, and what they come to
+pub data Steps (A : Type 0) : Type 0 where
+  -- no further call
+  Done : A → Steps A
   -- a keeper call, and what follows each answer
-  Ask : (call : TableCall) → (Answer call → Plan) → Plan
+  Ask : (call : TableCall) → (Answer call → Steps A) → Steps A
+
+-- those of a statement, which has an answer, or is refused
+abbrev pub Plan : Type 0
+Plan = Steps (Result SqlAnswer SqlRefusal)
 
 abbrev pub give : SqlAnswer → Plan
 give answer = Done (Ok answer)
@@ -30,10 +35,10 @@ abbrev pub passed : Option SqlRefusal → Result (Unit {0}) SqlStop
 passed None = Ok tt
 passed (Some x) = Err (Refused x)
 
--- The calls of plan p that a run has made so far, each answered, have led from u to v, and plan q is left.
-pub data Leads (p : Plan) (u : Keeping) : Plan → Keeping → Type 0 where
+-- The calls of p that a run has made so far, each answered, have led from u to v, and q is left.
+pub data Leads {A : Type 0} (p : Steps A) (u : Keeping) : Steps A → Keeping → Type 0 where
   here : Leads p u p u
-  behind : {call : TableCall} {next : Answer call → Plan} {answer : Answer call} {v w : Keeping}
+  behind : {call : TableCall} {next : Answer call → Steps A} {answer : Answer call} {v w : Keeping}
       → Leads p u (Ask call next) v → IsCalled call v (Ok answer) w → Leads p u (next answer) w
 
 -- How a run of plan p that begins at u may end, and where that leaves the keeper and the numbers of the calls.

@@ -61,7 +61,7 @@ pub(crate) fn create_table<T: Tables>(
 }
 
 /// The columns of a table, `None` exactly where it is not there.
-pub(crate) fn table_columns<T: Tables>(
+pub fn table_columns<T: Tables>(
     tables: &mut T,
     calls: &mut Calls,
     name: &[u8],
@@ -76,7 +76,7 @@ pub(crate) fn table_columns<T: Tables>(
 }
 
 /// The rows of a table, none where it is not there.
-pub(crate) fn table_rows<T: Tables>(
+pub fn table_rows<T: Tables>(
     tables: &mut T,
     calls: &mut Calls,
     name: &[u8],

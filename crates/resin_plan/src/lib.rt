@@ -22,5 +22,11 @@ mod selects;
 mod statements;
 mod table;
 
+/// Parts of statements that are carried out, for statements that have others.
+pub mod parts {
+    pub use crate::keeper::{table_columns, table_rows};
+    pub use crate::selects::{answered_at, answered_row};
+}
+
 pub use answer::{SqlAnswer, SqlResult};
 pub use statements::exec;

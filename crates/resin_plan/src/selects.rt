@@ -11,25 +11,24 @@ use crate::keeper::table_rows;
 use crate::table::{opened, pass};
 use resin_base::{Bytes, Calls, Cell, Column, Row, Stored, StoredCell, StoredRows, Tables};
 use resin_rows::{
-    Place, cells_at, chosen_places, copied_or_null, earlier, first_named, fits_or_null, found,
-    limit_places, name_cause, names_cause, names_of, order_places, shadow_at, value_at,
-    where_cause,
+    Place, RowCells, cells_at, chosen_places, copied_or_null, earlier, first_named, fits_or_null,
+    found, limit_places, name_cause, names_cause, names_of, order_places, where_cause,
 };
 use resin_sql::{Order, Select, SqlRefusal, SqlStop};
 use std::alloc::{AllocError, Global};
 
 /// A cell as it is answered.
-fn answered_at(
+pub fn answered_at(
     alloc: Global,
-    cells: &[Cell],
+    cells: &RowCells<'_>,
     place: Option<Place>,
 ) -> Result<StoredCell, AllocError>
     ensures { IfOk result (λ cell. cell ≡ answered_at cells.now place) }
 {
     match place {
-        Some(place) if fits_or_null(place.kind, value_at(cells, place.at)) => {
-            let value = copied_or_null(alloc, value_at(cells, place.at))?;
-            let shadow = copied_or_null(alloc, shadow_at(cells, place.at))?;
+        Some(place) if fits_or_null(place.kind, cells.value_at(place.at)) => {
+            let value = copied_or_null(alloc, cells.value_at(place.at))?;
+            let shadow = copied_or_null(alloc, cells.shadow_at(place.at))?;
             Ok(StoredCell { value, shadow })
         }
         _ => Ok(StoredCell {
@@ -40,11 +39,11 @@ fn answered_at(
 }
 
 /// A row as it is answered: the cells of the columns of these names.
-fn answered_row(
+pub fn answered_row(
     alloc: Global,
     columns: &[Column],
     names: &[Bytes],
-    cells: &[Cell],
+    cells: &RowCells<'_>,
 ) -> Result<Stored, AllocError>
     ensures { IfOk result (λ row. row ≡ answered_row columns.now names.now cells.now) }
 {
@@ -68,7 +67,12 @@ fn answered_rows(
 {
     let mut answer = StoredRows::new(alloc);
     for place in places {
-        let row = answered_row(alloc, columns, names, cells_at(rows, *place))?;
+        let row = answered_row(
+            alloc,
+            columns,
+            names,
+            &RowCells::one(cells_at(rows, *place)),
+        )?;
         answer.push(row)?;
     }
     Ok(answer)

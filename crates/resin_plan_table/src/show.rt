@@ -58,6 +58,7 @@ fn push_rows(out: &mut String, names: &Names, rows: &StoredRows) -> Result<(), A
 fn refusal(refusal: SqlRefusal) -> &'static str {
     match refusal {
         SqlRefusal::TableExists => "table exists",
+        SqlRefusal::SameTable => "same table",
         SqlRefusal::NoTable => "no table",
         SqlRefusal::NoColumn => "no column",
         SqlRefusal::DuplicateColumn => "duplicate column",

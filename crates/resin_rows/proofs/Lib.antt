@@ -5,3 +5,4 @@ pub mod Loops
 pub mod KeptNames
 pub mod Causes
 pub mod ConditionLaws
+pub mod Beside

@@ -1,5 +1,5 @@
 -- Cells: kinds, tests and order.
-use Rattle.std.specs.Prelude.{ℕ, ◌+◌, ◌*◌, Bool, true, false, List, slice_get, Option, Some, None}
+use Rattle.std.specs.Prelude.{ℕ, zero, suc, ◌+◌, ◌*◌, Bool, true, false, ◌&&◌, List, [], ◌∷◌, ◌++◌, slice_get, Option, Some, None}
 use Rattle.std.specs.declared.cmp.Ordering.{Ordering}
 use Rattle.std.specs.Ordering.{int_cmp, bool_cmp, is_eq, is_ne, is_lt, is_le, is_gt, is_ge}
 use Rattle.resin_base.specs.Contents.{byte_order}
@@ -47,6 +47,10 @@ allows_some op (Some o) = allows op o
 abbrev pub meets : Comparison → Cell → Cell → Bool
 meets op a b = allows_some op (compared a b)
 
+-- two values of this kind that are equal
+abbrev pub are_equal : Kind → Cell → Cell → Bool
+are_equal k a b = is_of_kind k a && meets Equal a b
+
 -- `IS NULL`, and `IS NOT NULL` where it is negated; both are false of a cell of another kind than its column's
 abbrev pub meets_null : Bool → Kind → Cell → Bool
 meets_null false k c = is_null c
@@ -72,3 +76,13 @@ value_at cells at = cell_at cells (2 * at)
 
 abbrev pub shadow_at : List Cell → ℕ → Cell
 shadow_at cells at = cell_at cells (2 * at + 1)
+
+-- so many cells of a row; those behind its end are NULL
+abbrev pub fitted : ℕ → List Cell → List Cell
+fitted zero cells = []
+fitted (suc n) [] = cell.Null ∷ fitted n []
+fitted (suc n) (c ∷ cells) = c ∷ fitted n cells
+
+-- a row of a table with so many columns, and another row behind it
+abbrev pub beside : ℕ → List Cell → List Cell → List Cell
+beside columns a b = fitted (2 * columns) a ++ b

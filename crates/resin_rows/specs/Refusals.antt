@@ -4,7 +4,7 @@ use Rattle.std.specs.List.{list_any}
 use Rattle.resin_base.specs.declared.cell.Column.{Column}
 use Rattle.resin_base.specs.declared.stored.StoredCell.{StoredCell}
 use Rattle.resin_sql.specs.declared.fault.SqlRefusal.{SqlRefusal}
-use Rattle.resin_sql.specs.declared.fault.SqlRefusal.TheVariants.{TableExists, NoTable, NoColumn, DuplicateColumn, WrongCount, WrongKind, Full}
+use Rattle.resin_sql.specs.declared.fault.SqlRefusal.TheVariants.{TableExists, SameTable, NoTable, NoColumn, DuplicateColumn, WrongCount, WrongKind, Full}
 use Rattle.resin_rows.specs.declared.columns.Place.{Place}
 use Rattle.resin_rows.specs.Columns.{found, is_repeated}
 use Rattle.resin_rows.specs.Cells.{fits}
@@ -12,12 +12,13 @@ use Rattle.resin_rows.specs.Cells.{fits}
 -- the place of a refusal in the order
 abbrev pub rank : SqlRefusal → ℕ
 rank TableExists = 0
-rank NoTable = 1
-rank NoColumn = 2
-rank DuplicateColumn = 3
-rank WrongCount = 4
-rank WrongKind = 5
-rank Full = 6
+rank SameTable = 1
+rank NoTable = 2
+rank NoColumn = 3
+rank DuplicateColumn = 4
+rank WrongCount = 5
+rank WrongKind = 6
+rank Full = 7
 
 -- the earlier of two causes, where there are any
 abbrev pub earlier : Option SqlRefusal → Option SqlRefusal → Option SqlRefusal

@@ -2,7 +2,7 @@
 
 ghost use Rattle.std.specs.Prelude.{◌≡◌, IfOk};
 ghost use Rattle.std.specs.Option.{option_copied};
-ghost use Rattle.resin_rows.specs.Cells.{is_null, is_of_kind, fits, meets, meets_null, allows, cell_order, or_null, value_at, shadow_at};
+ghost use Rattle.resin_rows.specs.Cells.{is_null, is_of_kind, fits, meets, meets_null, allows, are_equal, cell_order, or_null, value_at, shadow_at};
 
 use resin_base::{Bytes, Cell, Kind};
 use resin_sql::Comparison;
@@ -63,7 +63,7 @@ fn allows(comparison: Comparison, order: Ordering) -> bool
 }
 
 /// Whether a cell meets a test against a value.
-fn meets(comparison: Comparison, cell: &Cell, value: &Cell) -> bool
+pub fn meets(comparison: Comparison, cell: &Cell, value: &Cell) -> bool
     ensures { result ≡ meets comparison cell.now value.now }
 {
     match (cell, value) {
@@ -174,5 +174,15 @@ pub(crate) fn order_or_null(kind: Kind, a: Option<&Cell>, b: Option<&Cell>) -> O
     match (a, b) {
         (Some(a), Some(b)) => cell_order(kind, a, b),
         _ => has_kind(kind, a).cmp(&has_kind(kind, b)),
+    }
+}
+
+/// Whether two cells, where there are any, have values of a kind that are equal.
+pub fn equal_or_null(kind: Kind, first: Option<&Cell>, last: Option<&Cell>) -> bool
+    ensures { result ≡ are_equal kind (or_null (option_copied first.entry)) (or_null (option_copied last.entry)) }
+{
+    match last {
+        Some(last) => has_kind(kind, first) && meets_or_null(Comparison::Equal, first, last),
+        None => false,
     }
 }

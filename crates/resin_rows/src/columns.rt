@@ -25,7 +25,8 @@ fn shadow_name(alloc: Global, name: &[u8]) -> Result<Bytes, AllocError>
     Ok(shadow)
 }
 
-fn is_text(kind: Kind) -> bool
+/// Whether a kind is TEXT.
+pub fn is_text(kind: Kind) -> bool
     ensures { result ≡ is_text kind }
 {
     match kind {

@@ -6,16 +6,17 @@ ghost use Rattle.resin_rows.specs.Cells.{meets, meets_null, value_at};
 ghost use Rattle.resin_rows.specs.Columns.{found};
 ghost use Rattle.resin_rows.specs.Conditions.{front_value, place_meets, test_holds, holds, all_hold, any_holds, test_cause, condition_cause, parts_cause, where_holds, where_cause};
 
-use crate::cells::{is_null_or_none, meets_or_null, value_at};
+use crate::cells::{is_null_or_none, meets_or_null};
 use crate::columns::found;
 use crate::refusals::{earlier, name_cause, value_cause};
+use crate::row_cells::RowCells;
 use resin_base::{Cell, Column, StoredCell};
 use resin_sql::{Comparison, Condition, SqlRefusal, Test};
 
 /// Whether the value of a column in a row of these cells meets a test against the value in front.
 fn compares(
     columns: &[Column],
-    cells: &[Cell],
+    cells: &RowCells<'_>,
     name: &[u8],
     comparison: Comparison,
     values: &[StoredCell],
@@ -24,18 +25,18 @@ fn compares(
 {
     match (found(columns, name), values.first()) {
         (Some(place), Some(value)) => {
-            meets_or_null(comparison, value_at(cells, place.at), &value.value)
+            meets_or_null(comparison, cells.value_at(place.at), &value.value)
         },
         _ => false,
     }
 }
 
 /// Whether the value of a column in a row of these cells is NULL, or where `negated` is not.
-fn tests_null(columns: &[Column], cells: &[Cell], name: &[u8], negated: bool) -> bool
+fn tests_null(columns: &[Column], cells: &RowCells<'_>, name: &[u8], negated: bool) -> bool
     ensures { result ≡ place_meets (λ (p : Place). meets_null negated p.kind (value_at cells.now p.at)) (found columns.now name.now) }
 {
     match found(columns, name) {
-        Some(place) => is_null_or_none(negated, place.kind, value_at(cells, place.at)),
+        Some(place) => is_null_or_none(negated, place.kind, cells.value_at(place.at)),
         None => false,
     }
 }
@@ -53,7 +54,7 @@ fn behind(values: &[StoredCell]) -> &[StoredCell]
 /// Whether a row of these cells meets a test, and the values behind the test's own.
 fn test_holds<'v>(
     columns: &[Column],
-    cells: &[Cell],
+    cells: &RowCells<'_>,
     test: &Test,
     values: &'v [StoredCell],
 ) -> (bool, &'v [StoredCell])
@@ -76,7 +77,7 @@ fn test_holds<'v>(
 #[cycle(holds)]
 fn holds<'v>(
     columns: &[Column],
-    cells: &[Cell],
+    cells: &RowCells<'_>,
     condition: &Condition,
     values: &'v [StoredCell],
 ) -> (bool, &'v [StoredCell])
@@ -93,7 +94,7 @@ fn holds<'v>(
 #[cycle(holds)]
 fn all_hold<'v>(
     columns: &[Column],
-    cells: &[Cell],
+    cells: &RowCells<'_>,
     parts: &[Condition],
     values: &'v [StoredCell],
 ) -> (bool, &'v [StoredCell])
@@ -113,7 +114,7 @@ fn all_hold<'v>(
 #[cycle(holds)]
 fn any_holds<'v>(
     columns: &[Column],
-    cells: &[Cell],
+    cells: &RowCells<'_>,
     parts: &[Condition],
     values: &'v [StoredCell],
 ) -> (bool, &'v [StoredCell])
@@ -196,6 +197,18 @@ pub fn where_holds(
     condition: &Option<Condition>,
     values: &[StoredCell],
     cells: &[Cell],
+) -> bool
+    ensures { result ≡ where_holds columns.now condition.now values.now cells.now }
+{
+    where_holds_in(columns, condition, values, &RowCells::one(cells))
+}
+
+/// The same of cells that may stand in two rows.
+pub fn where_holds_in(
+    columns: &[Column],
+    condition: &Option<Condition>,
+    values: &[StoredCell],
+    cells: &RowCells<'_>,
 ) -> bool
     ensures { result ≡ where_holds columns.now condition.now values.now cells.now }
 {

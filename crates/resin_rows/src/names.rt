@@ -9,7 +9,7 @@ use resin_sql::Change;
 use std::alloc::{AllocError, Global};
 
 /// Whether a name is among others.
-pub(crate) fn is_among(name: &[u8], names: &[Bytes]) -> bool
+pub fn is_among(name: &[u8], names: &[Bytes]) -> bool
     ensures { result ≡ is_among name.now names.now }
 {
     for other in names {

@@ -16,12 +16,13 @@ fn rank(refusal: SqlRefusal) -> u8
 {
     match refusal {
         SqlRefusal::TableExists => 0,
-        SqlRefusal::NoTable => 1,
-        SqlRefusal::NoColumn => 2,
-        SqlRefusal::DuplicateColumn => 3,
-        SqlRefusal::WrongCount => 4,
-        SqlRefusal::WrongKind => 5,
-        SqlRefusal::Full => 6,
+        SqlRefusal::SameTable => 1,
+        SqlRefusal::NoTable => 2,
+        SqlRefusal::NoColumn => 3,
+        SqlRefusal::DuplicateColumn => 4,
+        SqlRefusal::WrongCount => 5,
+        SqlRefusal::WrongKind => 6,
+        SqlRefusal::Full => 7,
     }
 }
 

@@ -1,4 +1,4 @@
--- From the outcome of reading a text to what it says of statements.
+-- From the outcome of reading a text by a grammar of statements to what it says of statements.
 use Rattle.std.proofs.Common.{◌≡◌, ℕ, suc, ◌+◌, ◌-◌, ◌<◌, List, [], ◌∷◌, ◌++◌, ◌⊎◌, inl, inr, length, take, drop, slice_index_or, Result, Ok, Err, refl, sym, ap, subst, ◌∙◌, arith, append_assoc, length-append}
 use Rattle.resin_form.specs.Reading.{Got, Stop, Deep}
 use Rattle.resin_form.specs.Reads.{Reads}
@@ -12,14 +12,11 @@ use Rattle.resin_form.proofs.Fronts.{shrinks, is_read, is_refused, is_too_deep}
 use Rattle.resin_sql_words.proofs.Spelling.{at_letter}
 use Rattle.resin_sql_words.specs.declared.cursor.Placed.{Placed}
 use Rattle.resin_sql_words.specs.Places.{placed}
-use Rattle.resin_sql_words.specs.Forms.{rules, in_limits, under}
-use Rattle.resin_sql_words.specs.Words.{gap, gap_from}
-use Rattle.resin_sql.specs.Statements.{statement, opening}
-use Rattle.resin_sql.specs.Answers.{Answers, IsStatement, IsFront, IsFrontWithin, IsFirstFault, IsBeyond, last_start, next_start}
+use Rattle.resin_sql_words.specs.Forms.{Rule, rules, in_limits, under}
+use Rattle.resin_sql.specs.Answers.{AnswersBy, IsText, IsFront, IsFirstFault, IsBeyond, last_start, next_start}
 use Rattle.resin_sql.specs.Places.{refusal}
 use Rattle.resin_sql.specs.declared.fault.SqlFault.{SqlFault}
 use Rattle.resin_sql.specs.declared.fault.SqlFault.TheVariants.{Memory}
-use Rattle.resin_sql.specs.declared.tree.Stmt.{Stmt}
 
 -- ---- the bytes of a front
 
@@ -53,28 +50,6 @@ longer u t more = sym (append_assoc u (t ∷ []) more)
 one_longer : (u : List Placed) (t : Placed) → length (u ++ t ∷ []) ≡ length u + 1
 one_longer u t = length-append u (t ∷ [])
 
--- ---- the first fault
-
-no_byte_more : (bytes : List ℕ) (u rest : List Placed) → EndsLongest rules statement (placed 0 bytes) u rest → length u < length bytes → IsFront (take (length u + 1) bytes) → ⊥
-no_byte_more bytes u [] e h f = let l = lengths bytes u [] e.text in absurd (omega arith)
-no_byte_more bytes u (t ∷ more) e h f =
-    let text : placed 0 bytes ≡ (u ++ t ∷ []) ++ more = e.text ∙ longer u t more in
-    let same : placed 0 (take (length (u ++ t ∷ [])) bytes) ≡ u ++ t ∷ [] = as_bytes bytes (u ++ t ∷ []) more text in
-    let all : placed 0 (take (length u + 1) bytes) ≡ u ++ t ∷ [] = subst (λ n. placed 0 (take n bytes) ≡ u ++ t ∷ []) (one_longer u t) same in
-    e.longest t [] more refl (subst (λ x. forms.IsFront rules statement x) all f)
-
-pub first_fault : (bytes : List ℕ) (u rest : List Placed) → EndsLongest rules statement (placed 0 bytes) u rest → forms.IsFrontWithin rules in_limits 1 statement u → IsFirstFault bytes (length bytes - length rest)
-first_fault bytes u rest e w =
-    let l = lengths bytes u rest e.text in
-    let n : length u ≡ length bytes - length rest = omega arith in
-    subst (IsFirstFault bytes) n (record {
-      in_text = omega arith;
-      before = subst (λ x. forms.IsFrontWithin rules in_limits 1 statement x) (sym (as_bytes bytes u rest e.text)) w;
-      no_longer = no_byte_more bytes u rest e;
-    })
-
--- ---- a name or a number beyond its limit
-
 -- the last of some tokens, and those before it
 data Last (u : List Placed) : Type 0 where
   nothing : u ≡ [] → Last u
@@ -88,105 +63,125 @@ last_of : (u : List Placed) → Last u
 last_of [] = nothing refl
 last_of (t ∷ u) = after t u (last_of u)
 
-exact_statement : Exact (under statement) (SpellsWithin rules in_limits 1 statement) (BeginsWithin rules in_limits 1 statement)
-exact_statement = exact (allows_at in_limits 1) (reading rules in_limits 1) (shrinks rules in_limits 1) (NameSpells rules in_limits 1) (NameBegins rules in_limits 1) (λ n. absurd n) statement
+-- `F`: the grammar, by which some byte is wanted; `start`: where the name or the number begins that some bytes end with
+module _ {A : Type 0} (F : Rule A) (start : List ℕ → ℕ) (nothing_read : under F [] ≡ Stop []) where
+  -- ---- the first fault
 
-nothing_read : under statement [] ≡ Stop []
-unfolding statement opening gap gap_from
-nothing_read = refl
+  no_byte_more : (bytes : List ℕ) (u rest : List Placed) → EndsLongest rules F (placed 0 bytes) u rest → length u < length bytes → IsFront F (take (length u + 1) bytes) → ⊥
+  no_byte_more bytes u [] e h f = let l = lengths bytes u [] e.text in absurd (omega arith)
+  no_byte_more bytes u (t ∷ more) e h f =
+      let text : placed 0 bytes ≡ (u ++ t ∷ []) ++ more = e.text ∙ longer u t more in
+      let same : placed 0 (take (length (u ++ t ∷ [])) bytes) ≡ u ++ t ∷ [] = as_bytes bytes (u ++ t ∷ []) more text in
+      let all : placed 0 (take (length u + 1) bytes) ≡ u ++ t ∷ [] = subst (λ n. placed 0 (take n bytes) ≡ u ++ t ∷ []) (one_longer u t) same in
+      e.longest t [] more refl (subst (λ x. forms.IsFront rules F x) all f)
 
-nothing_is_a_front : forms.IsFrontWithin rules in_limits 1 statement []
-nothing_is_a_front = inl (exact_statement.stopped [] nothing_read)
-
-module _ (bytes : List ℕ) (rest : List Placed) (r : IsTooDeep rules statement in_limits 1 (placed 0 bytes) rest) where
-  beyond_at : Last r.front → IsBeyond bytes (last_start 0 0 (take (length bytes - length rest) bytes))
-  beyond_at (nothing e) = absurd (r.too_deep (subst (λ x. forms.IsFrontWithin rules in_limits 1 statement x) (sym e) nothing_is_a_front))
-  beyond_at (last_is init t e) =
-      let l = lengths bytes r.front rest r.text in
-      let n : length r.front ≡ length bytes - length rest = omega arith in
-      let m : length r.front ≡ length init + 1 = ap length e ∙ one_longer init t in
-      let text : placed 0 bytes ≡ init ++ t ∷ rest = r.text ∙ ap (λ x. x ++ rest) e ∙ append_assoc init (t ∷ []) rest in
-      let whole : placed 0 (take (length init + 1) bytes) ≡ r.front = subst (λ k. placed 0 (take k bytes) ≡ r.front) m (as_bytes bytes r.front rest r.text) in
-      record {
-        last = length init;
+  pub first_fault : (bytes : List ℕ) (u rest : List Placed) → EndsLongest rules F (placed 0 bytes) u rest → forms.IsFrontWithin rules in_limits 1 F u → IsFirstFault F bytes (length bytes - length rest)
+  first_fault bytes u rest e w =
+      let l = lengths bytes u rest e.text in
+      let n : length u ≡ length bytes - length rest = omega arith in
+      subst (IsFirstFault F bytes) n (record {
         in_text = omega arith;
-        before = subst (λ x. forms.IsFrontWithin rules in_limits 1 statement x) (sym (as_bytes bytes init (t ∷ rest) text)) (r.first init [] t e);
-        front = subst (λ x. forms.IsFront rules statement x) (sym whole) r.is_front;
-        beyond = λ f. r.too_deep (subst (λ x. forms.IsFrontWithin rules in_limits 1 statement x) whole f);
-        start = ap (λ k. last_start 0 0 (take k bytes)) (sym n ∙ m);
-      }
+        before = subst (λ x. forms.IsFrontWithin rules in_limits 1 F x) (sym (as_bytes bytes u rest e.text)) w;
+        no_longer = no_byte_more bytes u rest e;
+      })
 
-  pub is_beyond : IsBeyond bytes (last_start 0 0 (take (length bytes - length rest) bytes))
-  is_beyond = beyond_at (last_of r.front)
+  -- ---- a name or a number beyond its limit
 
--- ---- what reading a text comes to
+  exactly : Exact (under F) (SpellsWithin rules in_limits 1 F) (BeginsWithin rules in_limits 1 F)
+  exactly = exact (allows_at in_limits 1) (reading rules in_limits 1) (shrinks rules in_limits 1) (NameSpells rules in_limits 1) (NameBegins rules in_limits 1) (λ n. absurd n) F
 
--- what a text is, whatever the statement that it might be
-abbrev pub Found : List ℕ → Result Stmt SqlFault → Type 0
-Found bytes r = (q : Stmt) → IsStatement bytes q → (r ≡ Ok q) ⊎ (r ≡ Err Memory)
+  nothing_is_a_front : forms.IsFrontWithin rules in_limits 1 F []
+  nothing_is_a_front = inl (exactly.stopped [] nothing_read)
 
-module _ (bytes : List ℕ) (rest : List Placed) where
-  abbrev ts : List Placed
-  ts = placed 0 bytes
+  module _ (bytes : List ℕ) (rest : List Placed) (r : IsTooDeep rules F in_limits 1 (placed 0 bytes) rest) where
+    beyond_at : Last r.front → IsBeyond F start bytes (start (take (length bytes - length rest) bytes))
+    beyond_at (nothing e) = absurd (r.too_deep (subst (λ x. forms.IsFrontWithin rules in_limits 1 F x) (sym e) nothing_is_a_front))
+    beyond_at (last_is init t e) =
+        let l = lengths bytes r.front rest r.text in
+        let n : length r.front ≡ length bytes - length rest = omega arith in
+        let m : length r.front ≡ length init + 1 = ap length e ∙ one_longer init t in
+        let text : placed 0 bytes ≡ init ++ t ∷ rest = r.text ∙ ap (λ x. x ++ rest) e ∙ append_assoc init (t ∷ []) rest in
+        let whole : placed 0 (take (length init + 1) bytes) ≡ r.front = subst (λ k. placed 0 (take k bytes) ≡ r.front) m (as_bytes bytes r.front rest r.text) in
+        record {
+          last = length init;
+          in_text = omega arith;
+          before = subst (λ x. forms.IsFrontWithin rules in_limits 1 F x) (sym (as_bytes bytes init (t ∷ rest) text)) (r.first init [] t e);
+          front = subst (λ x. forms.IsFront rules F x) (sym whole) r.is_front;
+          beyond = λ f. r.too_deep (subst (λ x. forms.IsFrontWithin rules in_limits 1 F x) whole f);
+          starts = ap (λ k. start (take k bytes)) (sym n ∙ m);
+        }
 
-  read_as : (q : Stmt) → IsStatement bytes q → under statement ts ≡ Got q []
-  read_as q s = exact_statement.spelled ts q [] s
+    pub is_beyond : IsBeyond F start bytes (start (take (length bytes - length rest) bytes))
+    is_beyond = beyond_at (last_of r.front)
 
-  pub whole : (q : Stmt) → under statement ts ≡ Got q rest → length rest ≡ 0 → IsStatement bytes q
-  whole q e l = exact_statement.got ts q [] (e ∙ ap (Got q) (none_after rest l))
+  -- ---- what reading a text comes to
 
-  pub whole_found : (q : Stmt) → under statement ts ≡ Got q rest → Found bytes (Ok q)
-  whole_found q e p s = let k = read_as p s in let same : q ≡ p = cc in inl (ap Ok same)
+  -- what a text is, whatever the statement that it might be
+  abbrev pub Found : List ℕ → Result A SqlFault → Type 0
+  Found bytes r = (q : A) → IsText F bytes q → (r ≡ Ok q) ⊎ (r ≡ Err Memory)
 
-  goes_past : (q p : Stmt) → under statement ts ≡ Got q rest → (length rest ≡ 0 → ⊥) → IsStatement bytes p → ⊥
-  goes_past q p e l s = let k = read_as p s in let none : rest ≡ [] = cc in l (ap length none)
+  module _ (bytes : List ℕ) (rest : List Placed) where
+    abbrev ts : List Placed
+    ts = placed 0 bytes
 
-  faults : (fault : Fault) (p : Stmt) → Reads (under statement ts) (Err fault) rest → IsStatement bytes p → fault ≡ f.Memory
-  faults Syntax p h s = let k = read_as p s in let e : under statement ts ≡ Stop rest = h in cc
-  faults TooDeep p h s = let k = read_as p s in let e : under statement ts ≡ Deep rest = h in cc
-  faults f.Memory p h s = refl
+    read_as : (q : A) → IsText F bytes q → under F ts ≡ Got q []
+    read_as q s = exactly.spelled ts q [] s
 
-  pub past : (q : Stmt) → under statement ts ≡ Got q rest → (length rest ≡ 0 → ⊥) → Answers bytes (Err (refusal bytes (length rest) Syntax))
-  past q e l =
-      let r = is_read rules statement in_limits 1 ts rest q e in
-      ((λ p s. goes_past q p e l s), inl (first_fault bytes r.front rest r.ends (inr (q, r.tree))))
+    pub whole : (q : A) → under F ts ≡ Got q rest → length rest ≡ 0 → IsText F bytes q
+    whole q e l = exactly.got ts q [] (e ∙ ap (Got q) (none_after rest l))
 
-  pub past_found : (q : Stmt) (r : Result Stmt SqlFault) → under statement ts ≡ Got q rest → (length rest ≡ 0 → ⊥) → Found bytes r
-  past_found q r e l p s = absurd (goes_past q p e l s)
+    pub whole_found : (q : A) → under F ts ≡ Got q rest → Found bytes (Ok q)
+    whole_found q e p s = let k = read_as p s in let same : q ≡ p = cc in inl (ap Ok same)
 
-  pub refused : (fault : Fault) → Reads (under statement ts) (Err fault) rest → Answers bytes (Err (refusal bytes (length rest) fault))
-  refused Syntax h =
-      let r = is_refused rules statement in_limits 1 ts rest h in
-      ((λ p s. let e : Syntax ≡ f.Memory = faults Syntax p h s in cc), inl (first_fault bytes r.front rest r.ends (inl r.begins)))
-  refused TooDeep h =
-      ((λ p s. let e : TooDeep ≡ f.Memory = faults TooDeep p h s in cc), inr (is_beyond bytes rest (is_too_deep rules statement in_limits 1 ts rest h)))
-  refused f.Memory h = tt
+    goes_past : (q p : A) → under F ts ≡ Got q rest → (length rest ≡ 0 → ⊥) → IsText F bytes p → ⊥
+    goes_past q p e l s = let k = read_as p s in let none : rest ≡ [] = cc in l (ap length none)
 
-  pub refused_found : (fault : Fault) → Reads (under statement ts) (Err fault) rest → Found bytes (Err (refusal bytes (length rest) fault))
-  refused_found fault h p s = let e = faults fault p h s in inr (ap (λ x. Err (refusal bytes (length rest) x)) e)
+    faults : (fault : Fault) (p : A) → Reads (under F ts) (Err fault) rest → IsText F bytes p → fault ≡ f.Memory
+    faults Syntax p h s = let k = read_as p s in let e : under F ts ≡ Stop rest = h in cc
+    faults TooDeep p h s = let k = read_as p s in let e : under F ts ≡ Deep rest = h in cc
+    faults f.Memory p h s = refl
 
--- ---- the same of what the code holds: the tokens that it read, and the count of those that it left
+    pub past : (q : A) → under F ts ≡ Got q rest → (length rest ≡ 0 → ⊥) → AnswersBy F start bytes (Err (refusal start bytes (length rest) Syntax))
+    past q e l =
+        let r = is_read rules F in_limits 1 ts rest q e in
+        ((λ p s. goes_past q p e l s), inl (first_fault bytes r.front rest r.ends (inr (q, r.tree))))
 
-module _ (bytes : List ℕ) (tokens rest : List Placed) (left : ℕ) (is_text : tokens ≡ placed 0 bytes) (are_left : left ≡ length rest) where
-  read_of : (q : Stmt) → under statement tokens ≡ Got q rest → under statement (placed 0 bytes) ≡ Got q rest
-  read_of q e = ap (under statement) (sym is_text) ∙ e
+    pub past_found : (q : A) (r : Result A SqlFault) → under F ts ≡ Got q rest → (length rest ≡ 0 → ⊥) → Found bytes r
+    past_found q r e l p s = absurd (goes_past q p e l s)
 
-  some : (left ≡ 0 → ⊥) → length rest ≡ 0 → ⊥
-  some n z = n (are_left ∙ z)
+    pub refused : (fault : Fault) → Reads (under F ts) (Err fault) rest → AnswersBy F start bytes (Err (refusal start bytes (length rest) fault))
+    refused Syntax h =
+        let r = is_refused rules F in_limits 1 ts rest h in
+        ((λ p s. let e : Syntax ≡ f.Memory = faults Syntax p h s in cc), inl (first_fault bytes r.front rest r.ends (inl r.begins)))
+    refused TooDeep h =
+        ((λ p s. let e : TooDeep ≡ f.Memory = faults TooDeep p h s in cc), inr (is_beyond bytes rest (is_too_deep rules F in_limits 1 ts rest h)))
+    refused f.Memory h = tt
 
-  pub of_whole : (q : Stmt) → under statement tokens ≡ Got q rest → left ≡ 0 → Answers bytes (Ok q) × Found bytes (Ok q)
-  of_whole q e z = (whole bytes rest q (read_of q e) (sym are_left ∙ z), whole_found bytes rest q (read_of q e))
+    pub refused_found : (fault : Fault) → Reads (under F ts) (Err fault) rest → Found bytes (Err (refusal start bytes (length rest) fault))
+    refused_found fault h p s = let e = faults fault p h s in inr (ap (λ x. Err (refusal start bytes (length rest) x)) e)
 
-  pub of_past : (q : Stmt) (e : SqlFault) → under statement tokens ≡ Got q rest → (left ≡ 0 → ⊥) → e ≡ refusal bytes left Syntax → Answers bytes (Err e) × Found bytes (Err e)
-  of_past q e h n s =
-      let same : refusal bytes (length rest) Syntax ≡ e = ap (λ k. refusal bytes k Syntax) (sym are_left) ∙ sym s in
-      (subst (λ x. Answers bytes (Err x)) same (past bytes rest q (read_of q h) (some n)), past_found bytes rest q (Err e) (read_of q h) (some n))
+  -- ---- the same of what the code holds: the tokens that it read, and the count of those that it left
 
-  pub of_fault : (fault : Fault) (e : SqlFault) → Reads (under statement tokens) (Err fault) rest → e ≡ refusal bytes left fault → Answers bytes (Err e) × Found bytes (Err e)
-  of_fault fault e h s =
-      let same : refusal bytes (length rest) fault ≡ e = ap (λ k. refusal bytes k fault) (sym are_left) ∙ sym s in
-      let r : Reads (under statement (placed 0 bytes)) (Err fault) rest = subst (λ us. Reads (under statement us) (Err fault) rest) is_text h in
-      (subst (λ x. Answers bytes (Err x)) same (refused bytes rest fault r), subst (λ x. Found bytes (Err x)) same (refused_found bytes rest fault r))
+  module _ (bytes : List ℕ) (tokens rest : List Placed) (left : ℕ) (is_text : tokens ≡ placed 0 bytes) (are_left : left ≡ length rest) where
+    read_of : (q : A) → under F tokens ≡ Got q rest → under F (placed 0 bytes) ≡ Got q rest
+    read_of q e = ap (under F) (sym is_text) ∙ e
+
+    some : (left ≡ 0 → ⊥) → length rest ≡ 0 → ⊥
+    some n z = n (are_left ∙ z)
+
+    pub of_whole : (q : A) → under F tokens ≡ Got q rest → left ≡ 0 → AnswersBy F start bytes (Ok q) × Found bytes (Ok q)
+    of_whole q e z = (whole bytes rest q (read_of q e) (sym are_left ∙ z), whole_found bytes rest q (read_of q e))
+
+    pub of_past : (q : A) (e : SqlFault) → under F tokens ≡ Got q rest → (left ≡ 0 → ⊥) → e ≡ refusal start bytes left Syntax → AnswersBy F start bytes (Err e) × Found bytes (Err e)
+    of_past q e h n s =
+        let same : refusal start bytes (length rest) Syntax ≡ e = ap (λ k. refusal start bytes k Syntax) (sym are_left) ∙ sym s in
+        (subst (λ x. AnswersBy F start bytes (Err x)) same (past bytes rest q (read_of q h) (some n)), past_found bytes rest q (Err e) (read_of q h) (some n))
+
+    pub of_fault : (fault : Fault) (e : SqlFault) → Reads (under F tokens) (Err fault) rest → e ≡ refusal start bytes left fault → AnswersBy F start bytes (Err e) × Found bytes (Err e)
+    of_fault fault e h s =
+        let same : refusal start bytes (length rest) fault ≡ e = ap (λ k. refusal start bytes k fault) (sym are_left) ∙ sym s in
+        let r : Reads (under F (placed 0 bytes)) (Err fault) rest = subst (λ us. Reads (under F us) (Err fault) rest) is_text h in
+        (subst (λ x. AnswersBy F start bytes (Err x)) same (refused bytes rest fault r), subst (λ x. Found bytes (Err x)) same (refused_found bytes rest fault r))
 
 -- one byte more of where the last word or number begins
 pub one_byte : (start i : ℕ) (bs : List ℕ) → i < length bs → last_start (next_start start i (slice_index_or bs i 0)) (i + 1) (drop (i + 1) bs) ≡ last_start start i (drop i bs)

@@ -1,3 +1,4 @@
 pub mod Nesting
 pub mod Endings
+pub mod Whole
 pub mod Quotes

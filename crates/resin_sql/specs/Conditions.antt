@@ -8,8 +8,10 @@ use Rattle.resin_form.specs.declared.fault.Fault.{Fault}
 use Rattle.resin_scan.specs.Bytes.{is_letter, lower}
 use Rattle.resin_sql_words.specs.declared.cursor.Placed.{Placed}
 use Rattle.resin_sql_words.specs.Forms.{Rule, ◌>>=◌, ◌>>◌, either, never, under}
-use Rattle.resin_sql_words.specs.Words.{Ended, gap, letters, word, keyword, sign, name_from}
+use Rattle.resin_sql_words.specs.Words.{Ended, gap, letters, word, keyword, sign, name, name_from, named}
 use Rattle.resin_sql_words.specs.Literals.{literal}
+use Rattle.resin_sql.specs.declared.condition.Naming.{Naming}
+use Rattle.resin_sql.specs.declared.condition.Naming.TheVariants as n
 use Rattle.resin_sql.specs.declared.tree.Comparison.{Comparison}
 use Rattle.resin_sql.specs.declared.tree.Comparison.TheVariants as o
 use Rattle.resin_sql.specs.declared.tree.Test.{Test}
@@ -60,6 +62,22 @@ tested column b = either (lower b == 105) (null_test column) (compared column b)
 -- what is tested, from its first byte on: a column, or for a join a column with its table
 abbrev pub Tested : Type 1
 Tested = ℕ → Rule (Ended (List ℕ))
+
+-- the name of a column with its table, `t.c`
+abbrev pub dotted : List ℕ → List ℕ → List ℕ
+dotted t c = (t ++ 46 ∷ []) ++ c
+
+-- the column, behind the table and the `.`
+unfoldable pub column_of : List ℕ → Rule (Ended (List ℕ))
+column_of t = named true >>= λ c. give (dotted t c.0, c.1)
+
+-- a column with its table, `t.c`, without blanks
+unfoldable pub with_table : Tested
+with_table b = name b >>= λ t. next (λ d. d.byte == 46) (λ _. taken (column_of t))
+
+abbrev pub tested_as : Naming → Tested
+tested_as n.Alone = name_from
+tested_as n.WithTable = with_table
 
 unfoldable pub one_test : Tested → ℕ → Rule (Ended Condition)
 one_test C b = C b >>= λ n. next (λ t. begins_test n.1 t.byte) (λ t. taken (tested n.0 t.byte))
@@ -135,8 +153,8 @@ atom C zero = begun C false (never (c.All [], false))
 atom C (suc room) = begun C true (bracketed (atom C room))
 
 -- a function value that reads a test, or a condition in brackets, where fewer brackets than the bound may still open
-pub record Nests (bound : ℕ) (pre : Global → MutBor (List Placed) → Bool → ℕ → Type 0)
-    (post : Global → MutBor (List Placed) → Bool → ℕ → Result (Ended Condition) Fault → MutBor (List Placed) → Type 0) : Type 0 where
-  pub callable : (alloc : Global) (old : MutBor (List Placed)) (free : Bool) (room : ℕ) → room < bound → pre alloc old free room
-  pub reads : (alloc : Global) (old new : MutBor (List Placed)) (free : Bool) (room : ℕ) (r : Result (Ended Condition) Fault) → room < bound
-      → post alloc old free room r new → Reads (under (atom name_from room free) old.now) r new.now
+pub record Nests (bound : ℕ) (pre : Global → MutBor (List Placed) → Naming → Bool → ℕ → Type 0)
+    (post : Global → MutBor (List Placed) → Naming → Bool → ℕ → Result (Ended Condition) Fault → MutBor (List Placed) → Type 0) : Type 0 where
+  pub callable : (alloc : Global) (old : MutBor (List Placed)) (naming : Naming) (free : Bool) (room : ℕ) → room < bound → pre alloc old naming free room
+  pub reads : (alloc : Global) (old new : MutBor (List Placed)) (naming : Naming) (free : Bool) (room : ℕ) (r : Result (Ended Condition) Fault) → room < bound
+      → post alloc old naming free room r new → Reads (under (atom (tested_as naming) room free) old.now) r new.now

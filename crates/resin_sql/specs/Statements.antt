@@ -10,7 +10,7 @@ use Rattle.resin_sql_words.specs.Words.{Ended, gap, word, keyword, sign, name_fr
 use Rattle.resin_sql_words.specs.Literals.{literal, digits}
 use Rattle.resin_sql_words.specs.declared.cursor.Placed.{Placed}
 use Rattle.resin_sql_words.specs.declared.literals.Literal.{Literal}
-use Rattle.resin_sql.specs.Conditions.{Behind, any_of, atom}
+use Rattle.resin_sql.specs.Conditions.{Behind, Tested, any_of, atom}
 use Rattle.resin_sql.specs.declared.tree.Change.{Change}
 use Rattle.resin_sql.specs.declared.tree.Condition.{Condition}
 use Rattle.resin_sql.specs.declared.tree.Order.{Order}
@@ -120,13 +120,13 @@ source free = keyword free 102 (codes "rom") >>= named
 abbrev pub Chosen : Type 0
 Chosen = Option Condition × Behind
 
--- behind the `W` of WHERE
-unfoldable pub behind_where : Bool → Rule Chosen
-behind_where orders = word (codes "here") >>= λ g. any_of (atom name_from 50) orders g >>= λ w. give (Some w.0, w.1)
+-- behind the `W` of WHERE; `C`: what its tests are of
+unfoldable pub behind_where : Tested → Bool → Rule Chosen
+behind_where C orders = word (codes "here") >>= λ g. any_of (atom C 50) orders g >>= λ w. give (Some w.0, w.1)
 
 -- WHERE and its condition, which may be left out; `orders`: ORDER may stand behind it
-unfoldable pub chosen : Bool → Bool → Rule Chosen
-chosen orders free = maybe (λ t. lower t.byte == 119 && free) (λ _. taken (behind_where orders)) (None, (free, false))
+unfoldable pub chosen : Tested → Bool → Bool → Rule Chosen
+chosen C orders free = maybe (λ t. lower t.byte == 119 && free) (λ _. taken (behind_where C orders)) (None, (free, false))
 
 unfoldable pub ascending : Rule (Ended Bool)
 ascending = word (codes "sc") >>= λ g. give (false, g)
@@ -165,7 +165,7 @@ unfoldable pub limit : Bool → Rule (Option ℕ)
 limit free = maybe (λ t. lower t.byte == 108 && free) (λ _. taken behind_limit) None
 
 unfoldable pub select : Rule Stmt
-select = word (codes "elect") >>= items >>= λ cs. source cs.1 >>= λ n. chosen true n.1 >>= λ w. ordering w.1 >>= λ o. limit o.1 >>= λ l.
+select = word (codes "elect") >>= items >>= λ cs. source cs.1 >>= λ n. chosen name_from true n.1 >>= λ w. ordering w.1 >>= λ o. limit o.1 >>= λ l.
     give (s.Select (record { columns = cs.0; table = n.0; condition = w.0; order = o.0; limit = l }))
 
 -- ---- UPDATE t SET c = l, .. WHERE w  and  DELETE FROM t WHERE w
@@ -183,10 +183,10 @@ unfoldable pub changes : Bool → Rule (Ended (List Change))
 changes free = change free [] >>= more_changes
 
 unfoldable pub update : Rule Stmt
-update = word (codes "pdate") >>= named >>= λ n. keyword n.1 115 (codes "et") >>= changes >>= λ cs. chosen false cs.1 >>= λ w. give (s.Update (record { table = n.0; changes = cs.0; condition = w.0 }))
+update = word (codes "pdate") >>= named >>= λ n. keyword n.1 115 (codes "et") >>= changes >>= λ cs. chosen name_from false cs.1 >>= λ w. give (s.Update (record { table = n.0; changes = cs.0; condition = w.0 }))
 
 unfoldable pub delete : Rule Stmt
-delete = word (codes "elete") >>= source >>= λ n. chosen false n.1 >>= λ w. give (s.Delete (record { table = n.0; condition = w.0 }))
+delete = word (codes "elete") >>= source >>= λ n. chosen name_from false n.1 >>= λ w. give (s.Delete (record { table = n.0; condition = w.0 }))
 
 -- ---- statements
 

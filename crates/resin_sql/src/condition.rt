@@ -2,7 +2,6 @@
 
 ghost use Rattle.std.specs.Prelude.{◌≡◌, ◌+◌, true, false, []};
 ghost use Rattle.resin_sql_words.specs.Forms.{under, never};
-ghost use Rattle.resin_sql_words.specs.Words.{name_from};
 ghost use Rattle.resin_sql.specs.Conditions as spec;
 ghost use Rattle.resin_sql.specs.Conditions.{Nests};
 ghost use Rattle.resin_sql.specs.declared.tree.Condition.TheVariants.{All};
@@ -14,7 +13,9 @@ use resin_bytes::Bytes;
 use resin_form::Fault;
 use resin_items::Items;
 use resin_scan::bytes::{is_letter, lower};
-use resin_sql_words::{ByteCursor, gap, keyword, letters, name_from, read_literal, sign, word};
+use resin_sql_words::{
+    ByteCursor, gap, keyword, letters, name, name_from, named, read_literal, sign, word,
+};
 use std::alloc::Global;
 
 /// `<`, `<=` or `<>`, behind the `<`.
@@ -156,16 +157,76 @@ fn tested(bytes: &mut ByteCursor<'_>, column: Bytes, first: u8) -> Result<(Condi
     }
 }
 
+/// How a statement names the columns of its tests.
+#[derive(Clone, Copy, Debug, PartialEq, Eq)]
+pub enum Naming {
+    /// `c`, of the one table.
+    Alone,
+    /// `t.c`, with the table and without blanks. A test has these bytes as the name of its column.
+    WithTable,
+}
+
+/// A column behind its table and the `.`, with both before it.
+#[tactic(auto, unfolding(crate::specs::Conditions::column_of))]
+pub fn column_of(
+    alloc: Global,
+    bytes: &mut ByteCursor<'_>,
+    table: Bytes,
+) -> Result<(Bytes, bool), Fault>
+    ensures { Reads (under (spec.column_of table) bytes.old) result bytes.new }
+{
+    let (column, free) = named(alloc, bytes, true)?;
+    let mut whole = table;
+    whole.push(b'.')?;
+    whole.push_slice(column.as_slice())?;
+    Ok((whole, free))
+}
+
+/// A column with its table, from its first byte on.
+#[tactic(auto, unfolding(crate::specs::Conditions::with_table))]
+pub fn with_table(
+    alloc: Global,
+    bytes: &mut ByteCursor<'_>,
+    first: u8,
+) -> Result<(Bytes, bool), Fault>
+    ensures { Reads (under (spec.with_table first) bytes.old) result bytes.new }
+{
+    let table = name(alloc, bytes, first)?;
+    match bytes.peek() {
+        Some(next) if next.byte == b'.' => {
+            bytes.skip(next);
+            column_of(alloc, bytes, table)
+        }
+        _ => Err(Fault::Syntax),
+    }
+}
+
+/// What is tested, from its first byte on.
+fn tested_name(
+    alloc: Global,
+    bytes: &mut ByteCursor<'_>,
+    naming: Naming,
+    first: u8,
+) -> Result<(Bytes, bool), Fault>
+    ensures { Reads (under (spec.tested_as naming first) bytes.old) result bytes.new }
+{
+    match naming {
+        Naming::Alone => name_from(alloc, bytes, first),
+        Naming::WithTable => with_table(alloc, bytes, first),
+    }
+}
+
 /// A test, from the first byte of its column on.
 #[tactic(auto, unfolding(crate::specs::Conditions::one_test))]
 fn read_test(
     alloc: Global,
     bytes: &mut ByteCursor<'_>,
+    naming: Naming,
     first: u8,
 ) -> Result<(Condition, bool), Fault>
-    ensures { Reads (under (spec.one_test name_from first) bytes.old) result bytes.new }
+    ensures { Reads (under (spec.one_test (spec.tested_as naming) first) bytes.old) result bytes.new }
 {
-    let (column, free) = name_from(alloc, bytes, first)?;
+    let (column, free) = tested_name(alloc, bytes, naming, first)?;
     match bytes.peek() {
         Some(next) if begins_test(free, next.byte) => {
             bytes.skip(next);
@@ -209,14 +270,15 @@ fn order_ending(bytes: &mut ByteCursor<'_>, orders: bool) -> Result<bool, Fault>
 fn no_bracket(
     alloc: Global,
     bytes: &mut ByteCursor<'_>,
+    naming: Naming,
     free: bool,
 ) -> Result<(Condition, bool), Fault>
-    ensures { Reads (under (spec.begun name_from false (never (All [], false)) free) bytes.old) result bytes.new }
+    ensures { Reads (under (spec.begun (spec.tested_as naming) false (never (All [], false)) free) bytes.old) result bytes.new }
 {
     match bytes.peek() {
         Some(next) if is_letter(next.byte) && free => {
             bytes.skip(next);
-            read_test(alloc, bytes, next.byte)
+            read_test(alloc, bytes, naming, next.byte)
         }
         _ => Err(Fault::Syntax),
     }
@@ -226,19 +288,21 @@ fn no_bracket(
 #[derive(Clone, Copy)]
 struct Inner<F> {
     alloc: Global,
+    naming: Naming,
     room: usize,
     atom: F,
 }
 
 impl<
-    F: Fn(Global, &mut ByteCursor<'_>, bool, usize) -> Result<(Condition, bool), Fault> + Copy,
+    F: Fn(Global, &mut ByteCursor<'_>, Naming, bool, usize) -> Result<(Condition, bool), Fault>
+        + Copy,
 > Inner<F> {
     /// A test, or a condition in brackets.
     fn one(&self, bytes: &mut ByteCursor<'_>, free: bool) -> Result<(Condition, bool), Fault>
         requires nests { Nests (self.now.room + 1) (F.pre self.now.atom) (F.post self.now.atom) }
-        ensures { Reads (under (spec.atom name_from self.now.room free) bytes.old) result bytes.new }
+        ensures { Reads (under (spec.atom (spec.tested_as self.now.naming) self.now.room free) bytes.old) result bytes.new }
     {
-        (self.atom)(self.alloc, bytes, free, self.room)
+        (self.atom)(self.alloc, bytes, self.naming, free, self.room)
     }
 
     #[tactic(auto, unfolding(crate::specs::Conditions::part))]
@@ -249,7 +313,7 @@ impl<
         done: Items<Condition>,
     ) -> Result<(Items<Condition>, bool), Fault>
         requires nests { Nests (self.now.room + 1) (F.pre self.now.atom) (F.post self.now.atom) }
-        ensures { Reads (under (spec.part (spec.atom name_from self.now.room) free done) bytes.old) result bytes.new }
+        ensures { Reads (under (spec.part (spec.atom (spec.tested_as self.now.naming) self.now.room) free done) bytes.old) result bytes.new }
     {
         let (condition, after) = self.one(bytes, free)?;
         let mut longer = done;
@@ -264,7 +328,7 @@ impl<
         done: Items<Condition>,
     ) -> Result<(Items<Condition>, bool), Fault>
         requires nests { Nests (self.now.room + 1) (F.pre self.now.atom) (F.post self.now.atom) }
-        ensures { Reads (under (spec.and_part (spec.atom name_from self.now.room) done) bytes.old) result bytes.new }
+        ensures { Reads (under (spec.and_part (spec.atom (spec.tested_as self.now.naming) self.now.room) done) bytes.old) result bytes.new }
     {
         let free = word(bytes, b"nd")?;
         self.part(bytes, free, done)
@@ -277,7 +341,7 @@ impl<
         after: bool,
     ) -> Result<(Items<Condition>, bool), Fault>
         requires nests { Nests (self.now.room + 1) (F.pre self.now.atom) (F.post self.now.atom) }
-        ensures { Reads (under (spec.more_parts (spec.atom name_from self.now.room) (first, after)) bytes.old) result bytes.new }
+        ensures { Reads (under (spec.more_parts (spec.atom (spec.tested_as self.now.naming) self.now.room) (first, after)) bytes.old) result bytes.new }
     {
         let mut done = first;
         let mut free = after;
@@ -297,7 +361,7 @@ impl<
     #[tactic(auto, unfolding(crate::specs::Conditions::all_of))]
     fn all_of(&self, bytes: &mut ByteCursor<'_>, free: bool) -> Result<(Condition, bool), Fault>
         requires nests { Nests (self.now.room + 1) (F.pre self.now.atom) (F.post self.now.atom) }
-        ensures { Reads (under (spec.all_of (spec.atom name_from self.now.room) free) bytes.old) result bytes.new }
+        ensures { Reads (under (spec.all_of (spec.atom (spec.tested_as self.now.naming) self.now.room) free) bytes.old) result bytes.new }
     {
         let (first, after) = self.part(bytes, free, Items::new(self.alloc))?;
         let (parts, ended) = self.more_parts(bytes, first, after)?;
@@ -312,7 +376,7 @@ impl<
         done: Items<Condition>,
     ) -> Result<(Items<Condition>, (bool, bool)), Fault>
         requires nests { Nests (self.now.room + 1) (F.pre self.now.atom) (F.post self.now.atom) }
-        ensures { Reads (under (spec.way (spec.atom name_from self.now.room) free done) bytes.old) result bytes.new }
+        ensures { Reads (under (spec.way (spec.atom (spec.tested_as self.now.naming) self.now.room) free done) bytes.old) result bytes.new }
     {
         let (condition, after) = self.all_of(bytes, free)?;
         let mut longer = done;
@@ -329,7 +393,7 @@ impl<
         done: Items<Condition>,
     ) -> Result<(Items<Condition>, (bool, bool)), Fault>
         requires nests { Nests (self.now.room + 1) (F.pre self.now.atom) (F.post self.now.atom) }
-        ensures { Reads (under (spec.or_way (spec.atom name_from self.now.room) orders done) bytes.old) result bytes.new }
+        ensures { Reads (under (spec.or_way (spec.atom (spec.tested_as self.now.naming) self.now.room) orders done) bytes.old) result bytes.new }
     {
         letters(bytes, b"r")?;
         let ordered = order_ending(bytes, orders)?;
@@ -349,7 +413,7 @@ impl<
         after: (bool, bool),
     ) -> Result<(Items<Condition>, (bool, bool)), Fault>
         requires nests { Nests (self.now.room + 1) (F.pre self.now.atom) (F.post self.now.atom) }
-        ensures { Reads (under (spec.more_ways (spec.atom name_from self.now.room) orders (first, after)) bytes.old) result bytes.new }
+        ensures { Reads (under (spec.more_ways (spec.atom (spec.tested_as self.now.naming) self.now.room) orders (first, after)) bytes.old) result bytes.new }
     {
         let mut done = first;
         let mut behind = after;
@@ -374,7 +438,7 @@ impl<
         free: bool,
     ) -> Result<(Condition, (bool, bool)), Fault>
         requires nests { Nests (self.now.room + 1) (F.pre self.now.atom) (F.post self.now.atom) }
-        ensures { Reads (under (spec.any_of (spec.atom name_from self.now.room) orders free) bytes.old) result bytes.new }
+        ensures { Reads (under (spec.any_of (spec.atom (spec.tested_as self.now.naming) self.now.room) orders free) bytes.old) result bytes.new }
     {
         let (first, after) = self.way(bytes, free, Items::new(self.alloc))?;
         let (ways, behind) = self.more_ways(bytes, orders, first, after)?;
@@ -385,7 +449,7 @@ impl<
     #[tactic(auto, unfolding(crate::specs::Conditions::bracketed))]
     fn bracketed(&self, bytes: &mut ByteCursor<'_>) -> Result<(Condition, bool), Fault>
         requires nests { Nests (self.now.room + 1) (F.pre self.now.atom) (F.post self.now.atom) }
-        ensures { Reads (under (spec.bracketed (spec.atom name_from self.now.room)) bytes.old) result bytes.new }
+        ensures { Reads (under (spec.bracketed (spec.atom (spec.tested_as self.now.naming) self.now.room)) bytes.old) result bytes.new }
     {
         gap(bytes);
         let (condition, _) = self.any_of(bytes, false, true)?;
@@ -397,7 +461,7 @@ impl<
     #[tactic(auto, unfolding(crate::specs::Conditions::begun))]
     fn begun(&self, bytes: &mut ByteCursor<'_>, free: bool) -> Result<(Condition, bool), Fault>
         requires nests { Nests (self.now.room + 1) (F.pre self.now.atom) (F.post self.now.atom) }
-        ensures { Reads (under (spec.begun name_from true (spec.bracketed (spec.atom name_from self.now.room)) free) bytes.old) result bytes.new }
+        ensures { Reads (under (spec.begun (spec.tested_as self.now.naming) true (spec.bracketed (spec.atom (spec.tested_as self.now.naming) self.now.room)) free) bytes.old) result bytes.new }
     {
         match bytes.peek() {
             Some(next) if next.byte == b'(' => {
@@ -406,7 +470,7 @@ impl<
             }
             Some(next) if is_letter(next.byte) && free => {
                 bytes.skip(next);
-                read_test(self.alloc, bytes, next.byte)
+                read_test(self.alloc, bytes, self.naming, next.byte)
             }
             _ => Err(Fault::Syntax),
         }
@@ -417,16 +481,18 @@ impl<
 pub fn atom(
     alloc: Global,
     bytes: &mut ByteCursor<'_>,
+    naming: Naming,
     free: bool,
     room: usize,
 ) -> Result<(Condition, bool), Fault>
-    ensures { Reads (under (spec.atom name_from room free) bytes.old) result bytes.new }
+    ensures { Reads (under (spec.atom (spec.tested_as naming) room free) bytes.old) result bytes.new }
 {
     if room == 0 {
-        no_bracket(alloc, bytes, free)
+        no_bracket(alloc, bytes, naming, free)
     } else {
         Inner {
             alloc,
+            naming,
             room: room - 1,
             atom,
         }
@@ -439,13 +505,15 @@ pub fn atom(
 pub fn condition(
     alloc: Global,
     bytes: &mut ByteCursor<'_>,
+    naming: Naming,
     orders: bool,
     free: bool,
 ) -> Result<(Condition, (bool, bool)), Fault>
-    ensures { Reads (under (spec.any_of (spec.atom name_from 50) orders free) bytes.old) result bytes.new }
+    ensures { Reads (under (spec.any_of (spec.atom (spec.tested_as naming) 50) orders free) bytes.old) result bytes.new }
 {
     Inner {
         alloc,
+        naming,
         room: 50,
         atom,
     }

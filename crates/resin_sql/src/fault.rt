@@ -17,6 +17,8 @@ pub enum SqlFault {
 pub enum SqlRefusal {
     /// CREATE of a table that is there.
     TableExists,
+    /// A join of a table with itself.
+    SameTable,
     /// Another statement on a table that isn't there.
     NoTable,
     /// A column that the table hasn't.

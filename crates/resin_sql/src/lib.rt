@@ -24,6 +24,16 @@ mod read;
 mod statement;
 mod tree;
 
+/// Readers of parts of statements, and of where words begin, for a grammar that has these statements and others.
+pub mod parts {
+    pub use crate::condition::{Naming, column_of, with_table};
+    pub use crate::lists::{is_comma, more_names};
+    pub use crate::read::last_start;
+    pub use crate::statement::{
+        begins_statement, begun_by, chosen, ending, limit, ordering, source,
+    };
+}
+
 pub use fault::{SqlFault, SqlRefusal, SqlStop};
 pub use labels::literal_text;
 pub use read::read_sql;

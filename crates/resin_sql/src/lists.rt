@@ -114,7 +114,8 @@ fn one_more_name(
     Ok((longer, free))
 }
 
-fn more_names(
+/// The names that go on behind a comma, and whether a word may follow.
+pub fn more_names(
     alloc: Global,
     bytes: &mut ByteCursor<'_>,
     first: Names,

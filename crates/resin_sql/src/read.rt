@@ -30,7 +30,7 @@ fn next_start(start: usize, at: usize, byte: u8) -> usize
 }
 
 /// Where the word or number at the end of these bytes begins.
-fn last_start(front: &[u8]) -> usize
+pub fn last_start(front: &[u8]) -> usize
     ensures { result ≡ last_start 0 0 front.now }
 {
     let mut start = 0;
@@ -42,7 +42,7 @@ fn last_start(front: &[u8]) -> usize
 
 /// What is told where reading ends at a fault with so many bytes left.
 fn refusal(text: &[u8], left: usize, fault: Fault) -> SqlFault
-    ensures { result ≡ refusal text.now left fault }
+    ensures { result ≡ refusal (last_start 0 0) text.now left fault }
 {
     let place = text.len().saturating_sub(left);
     match fault {

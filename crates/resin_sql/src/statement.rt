@@ -2,12 +2,13 @@
 
 ghost use Rattle.std.specs.Prelude.{◌≡◌, ◌<◌, true, false, []};
 ghost use Rattle.resin_sql_words.specs.Forms.{under};
+ghost use Rattle.resin_sql.specs.Conditions.{tested_as};
 ghost use Rattle.resin_sql.specs.Statements as spec;
 ghost use Rattle.resin_form.specs.Reads.{Reads};
 ghost use Rattle.resin_form.specs.Reading.{Got};
 ghost use Rattle.resin_scan.specs.Bytes.{is_digit};
 
-use crate::condition::condition;
+use crate::condition::{Naming, condition};
 use crate::lists::{definitions, is_comma, names_from, rows};
 use crate::tree::{Change, Condition, Create, Delete, Insert, Order, Select, Stmt, Update};
 use resin_base::Names;
@@ -136,7 +137,7 @@ fn items(
 
 /// FROM and a table.
 #[tactic(auto, unfolding(crate::specs::Statements::source))]
-fn source(alloc: Global, bytes: &mut ByteCursor<'_>, free: bool) -> Result<(Bytes, bool), Fault>
+pub fn source(alloc: Global, bytes: &mut ByteCursor<'_>, free: bool) -> Result<(Bytes, bool), Fault>
     ensures { Reads (under (spec.source free) bytes.old) result bytes.new }
 {
     let free = keyword(bytes, free, b'f', b"rom")?;
@@ -147,29 +148,31 @@ fn source(alloc: Global, bytes: &mut ByteCursor<'_>, free: bool) -> Result<(Byte
 fn behind_where(
     alloc: Global,
     bytes: &mut ByteCursor<'_>,
+    naming: Naming,
     orders: bool,
 ) -> Result<(Option<Condition>, (bool, bool)), Fault>
-    ensures { Reads (under (spec.behind_where orders) bytes.old) result bytes.new }
+    ensures { Reads (under (spec.behind_where (tested_as naming) orders) bytes.old) result bytes.new }
 {
     let free = word(bytes, b"here")?;
-    let (condition, behind) = condition(alloc, bytes, orders, free)?;
+    let (condition, behind) = condition(alloc, bytes, naming, orders, free)?;
     Ok((Some(condition), behind))
 }
 
 /// WHERE and its condition, which may be left out, and what stands behind it.
 #[tactic(auto, unfolding(crate::specs::Statements::chosen))]
-fn chosen(
+pub fn chosen(
     alloc: Global,
     bytes: &mut ByteCursor<'_>,
+    naming: Naming,
     orders: bool,
     free: bool,
 ) -> Result<(Option<Condition>, (bool, bool)), Fault>
-    ensures { Reads (under (spec.chosen orders free) bytes.old) result bytes.new }
+    ensures { Reads (under (spec.chosen (tested_as naming) orders free) bytes.old) result bytes.new }
 {
     match bytes.peek() {
         Some(next) if lower(next.byte) == b'w' && free => {
             bytes.skip(next);
-            behind_where(alloc, bytes, orders)
+            behind_where(alloc, bytes, naming, orders)
         }
         _ => Ok((None, (free, false))),
     }
@@ -235,7 +238,7 @@ fn behind_order(alloc: Global, bytes: &mut ByteCursor<'_>) -> Result<(Option<Ord
 
 /// ORDER BY, which may be left out, where its ORDER may have been read.
 #[tactic(auto, unfolding(crate::specs::Statements::ordering))]
-fn ordering(
+pub fn ordering(
     alloc: Global,
     bytes: &mut ByteCursor<'_>,
     free: bool,
@@ -291,7 +294,7 @@ fn behind_limit(bytes: &mut ByteCursor<'_>) -> Result<Option<u64>, Fault>
 
 /// LIMIT, which may be left out.
 #[tactic(auto, unfolding(crate::specs::Statements::limit))]
-fn limit(bytes: &mut ByteCursor<'_>, free: bool) -> Result<Option<u64>, Fault>
+pub fn limit(bytes: &mut ByteCursor<'_>, free: bool) -> Result<Option<u64>, Fault>
     ensures { Reads (under (spec.limit free) bytes.old) result bytes.new }
 {
     match bytes.peek() {
@@ -310,7 +313,7 @@ fn select(alloc: Global, bytes: &mut ByteCursor<'_>) -> Result<Stmt, Fault>
     let free = word(bytes, b"elect")?;
     let (columns, free) = items(alloc, bytes, free)?;
     let (table, free) = source(alloc, bytes, free)?;
-    let (condition, behind) = chosen(alloc, bytes, true, free)?;
+    let (condition, behind) = chosen(alloc, bytes, Naming::Alone, true, free)?;
     let (order, free) = ordering(alloc, bytes, behind.0, behind.1)?;
     let limit = limit(bytes, free)?;
     Ok(Stmt::Select(Select {
@@ -394,7 +397,7 @@ fn update(alloc: Global, bytes: &mut ByteCursor<'_>) -> Result<Stmt, Fault>
     let (table, free) = named(alloc, bytes, free)?;
     let free = keyword(bytes, free, b's', b"et")?;
     let (changes, free) = changes(alloc, bytes, free)?;
-    let (condition, _) = chosen(alloc, bytes, false, free)?;
+    let (condition, _) = chosen(alloc, bytes, Naming::Alone, false, free)?;
     Ok(Stmt::Update(Update {
         table,
         changes,
@@ -408,11 +411,11 @@ fn delete(alloc: Global, bytes: &mut ByteCursor<'_>) -> Result<Stmt, Fault>
 {
     let free = word(bytes, b"elete")?;
     let (table, free) = source(alloc, bytes, free)?;
-    let (condition, _) = chosen(alloc, bytes, false, free)?;
+    let (condition, _) = chosen(alloc, bytes, Naming::Alone, false, free)?;
     Ok(Stmt::Delete(Delete { table, condition }))
 }
 
-fn begins_statement(byte: u8) -> bool
+pub fn begins_statement(byte: u8) -> bool
     ensures { result ≡ spec.begins_statement byte }
 {
     byte == b'c' || byte == b'i' || byte == b's' || byte == b'u' || byte == b'd'
@@ -420,7 +423,7 @@ fn begins_statement(byte: u8) -> bool
 
 /// A statement by its first letter, in lower case.
 #[tactic(auto, unfolding(crate::specs::Statements::begun_by))]
-fn begun_by(alloc: Global, bytes: &mut ByteCursor<'_>, first: u8) -> Result<Stmt, Fault>
+pub fn begun_by(alloc: Global, bytes: &mut ByteCursor<'_>, first: u8) -> Result<Stmt, Fault>
     ensures { Reads (under (spec.begun_by first) bytes.old) result bytes.new }
 {
     match first {
@@ -447,7 +450,7 @@ fn opening(alloc: Global, bytes: &mut ByteCursor<'_>) -> Result<Stmt, Fault>
 
 /// The `;` that may end a text.
 #[tactic(auto, unfolding(crate::specs::Statements::ending))]
-fn ending(bytes: &mut ByteCursor<'_>) -> bool
+pub fn ending(bytes: &mut ByteCursor<'_>) -> bool
     ensures { under spec.ending bytes.old ≡ Got result bytes.new }
 {
     match bytes.peek() {

@@ -10,4 +10,4 @@ mod words;
 
 pub use cursor::{ByteCursor, Placed};
 pub use literals::{Literal, Span, count, read_literal};
-pub use words::{gap, keyword, letters, name_from, named, sign, word};
+pub use words::{gap, keyword, letters, name, name_from, named, sign, word};

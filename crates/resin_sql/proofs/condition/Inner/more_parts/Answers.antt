@@ -3,7 +3,6 @@ use Rattle.std.proofs.lemmas.Result.{err_from_is_err_and}
 use Rattle.resin_form.specs.Form.{taken}
 use Rattle.resin_form.proofs.Turns.{smaller, goes_on, fails, ends}
 use Rattle.resin_sql_words.specs.Forms.{rules as no_rules, in_limits}
-use Rattle.resin_sql_words.specs.Words.{name_from}
 use Rattle.resin_sql.specs.Conditions as spec
 use Rattle.resin_sql.proofs.condition.Inner.more_parts.Goals as goal
 use Rattle.resin_sql.proofs.condition.Inner.more_parts.Goals.{in-Some+then-not-is_and, in_default}
@@ -13,24 +12,24 @@ unfolding spec.more_parts
 returns-in_err-longer g c =
     let p = err_from_is_err_and c.from_residual.result c.from_residual.ensures.1 in
     let h : spec.is_and c.turns.free c.in-Some.next.byte ≡ true = search rules in
-    rw (p.1, p.2) (fails no_rules in_limits 1 (λ s t. spec.is_and s.1 t.byte) (λ s _. taken (spec.and_part (spec.atom name_from c.args.self.now.room) s.0)) _ (c.turns.done, c.turns.free) c.turns.bytes c.turns.invariant
+    rw (p.1, p.2) (fails no_rules in_limits 1 (λ s t. spec.is_and s.1 t.byte) (λ s _. taken (spec.and_part (spec.atom (spec.tested_as c.args.self.now.naming) c.args.self.now.room) s.0)) _ (c.turns.done, c.turns.free) c.turns.bytes c.turns.invariant
     c.in-Some.next c.skip.new.self c.and_part.new.bytes c.in_err-longer.field-0.0 c.skip.ensures h c.in_err-longer.ensures)
 
 pub turns-smaller : goal.turns-smaller
-turns-smaller g c = smaller no_rules in_limits 1 (taken (spec.and_part (spec.atom name_from c.args.self.now.room) c.turns.done)) c.turns.bytes c.in-Some.next c.skip.new.self (c.in_ok-longer.longer, c.in_ok-longer.ended) c.and_part.new.bytes c.skip.ensures c.in_ok-longer.ensures
+turns-smaller g c = smaller no_rules in_limits 1 (taken (spec.and_part (spec.atom (spec.tested_as c.args.self.now.naming) c.args.self.now.room) c.turns.done)) c.turns.bytes c.in-Some.next c.skip.new.self (c.in_ok-longer.longer, c.in_ok-longer.ended) c.and_part.new.bytes c.skip.ensures c.in_ok-longer.ensures
 
 pub turns-preserved : goal.turns-preserved
 unfolding spec.more_parts
 turns-preserved g c =
     let h : spec.is_and c.turns.free c.in-Some.next.byte ≡ true = search rules in
-    goes_on no_rules in_limits 1 (λ s t. spec.is_and s.1 t.byte) (λ s _. taken (spec.and_part (spec.atom name_from c.args.self.now.room) s.0)) _ (c.turns.done, c.turns.free) c.turns.bytes c.turns.invariant
+    goes_on no_rules in_limits 1 (λ s t. spec.is_and s.1 t.byte) (λ s _. taken (spec.and_part (spec.atom (spec.tested_as c.args.self.now.naming) c.args.self.now.room) s.0)) _ (c.turns.done, c.turns.free) c.turns.bytes c.turns.invariant
     c.in-Some.next c.skip.new.self c.and_part.new.bytes (c.in_ok-longer.longer, c.in_ok-longer.ended) c.skip.ensures h c.in_ok-longer.ensures
 
 pub returns : goal.returns
 unfolding spec.more_parts
 returns g c = elim c.match-peek.branch [
-  | in-Some+then-not-is_and w ↦ ends no_rules in_limits 1 (λ s t. spec.is_and s.1 t.byte) (λ s _. taken (spec.and_part (spec.atom name_from c.args.self.now.room) s.0)) _ (c.turns.done, c.turns.free) c.turns.bytes c.turns.invariant
+  | in-Some+then-not-is_and w ↦ ends no_rules in_limits 1 (λ s t. spec.is_and s.1 t.byte) (λ s _. taken (spec.and_part (spec.atom (spec.tested_as c.args.self.now.naming) c.args.self.now.room) s.0)) _ (c.turns.done, c.turns.free) c.turns.bytes c.turns.invariant
       (Some w.in-Some.next) (search rules) (λ t e. let same : t ≡ w.in-Some.next = cc in rw same (search rules))
-  | in_default w ↦ ends no_rules in_limits 1 (λ s t. spec.is_and s.1 t.byte) (λ s _. taken (spec.and_part (spec.atom name_from c.args.self.now.room) s.0)) _ (c.turns.done, c.turns.free) c.turns.bytes c.turns.invariant
+  | in_default w ↦ ends no_rules in_limits 1 (λ s t. spec.is_and s.1 t.byte) (λ s _. taken (spec.and_part (spec.atom (spec.tested_as c.args.self.now.naming) c.args.self.now.room) s.0)) _ (c.turns.done, c.turns.free) c.turns.bytes c.turns.invariant
       None (search rules) (λ t e. cc)
 ]

@@ -1,0 +1,17 @@
+use Rattle.std.proofs.Common.{arith}
+use Rattle.resin_rows.proofs.Beside.{shadow_in_first, shadow_in_last}
+use Rattle.resin_rows.proofs.row_cells.RowCells.shadow_at.Goals as goal
+
+pub returns-then-at-self : goal.returns-then-at-self
+returns-then-at-self c =
+    let e = c.shadow_at.ensures in
+    let h = shadow_in_first c.self.inside.columns c.args.at c.self.inside.first.now c.self.inside.last.now (omega (arith, c.if-at-self.true)) in
+    let v = c.self.view_is in
+    cc
+
+pub returns-else-at-self : goal.returns-else-at-self
+returns-else-at-self c =
+    let e = c.shadow_at-else-at-self.ensures in
+    let h = shadow_in_last c.self.inside.columns c.args.at c.self.inside.first.now c.self.inside.last.now (omega (arith, c.if-at-self.false)) in
+    let v = c.self.view_is in
+    cc

@@ -1,0 +1,4 @@
+pub mod Plans
+pub mod Joins
+pub mod Totals
+pub mod Values
