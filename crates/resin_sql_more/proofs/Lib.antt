@@ -1,6 +1,6 @@
 mod Runs
 mod Blaming
-mod Pairs
+mod Pairing
 mod Straying
 mod Kept
 mod Staying

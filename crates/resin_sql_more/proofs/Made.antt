@@ -1,5 +1,5 @@
 -- Answers by their parts.
-use Rattle.std.proofs.Common.{◌≡◌, ℕ, List, map, length, length-map, sym, ap, ◌∙◌}
+use Rattle.std.proofs.Common.{◌≡◌, ℕ, List, map, length, [], ◌∷◌, suc, refl, sym, ap, ◌∙◌}
 use Rattle.resin_base.specs.declared.cell.Column.{Column}
 use Rattle.resin_base.specs.declared.cell.Row.{Row}
 use Rattle.resin_base.specs.declared.stored.StoredCell.{StoredCell}
@@ -11,6 +11,10 @@ use Rattle.resin_plan.proofs.Turns.{map-map}
 use Rattle.resin_sql_more.specs.declared.answer.MoreAnswer.{MoreAnswer}
 use Rattle.resin_sql_more.specs.Joins.{pair_at, chosen_pairs, cost, join_answer}
 use Rattle.resin_sql_more.specs.Totals.{item_name, item_column, column_cells, first_items, chosen_rows, total_answer}
+
+length-map : {A B : Type 0} (f : A → B) (xs : List A) → length (map f xs) ≡ length xs
+length-map f [] = refl
+length-map f (x ∷ xs) = ap suc (length-map f xs)
 
 pub join_made : (s : JoinStmt) (vs : List StoredCell) (columns : List Column) (width : ℕ) (firsts lasts : List Row) (names : List (List ℕ)) (rows : List (List StoredCell)) (pairs : List (ℕ × ℕ)) (price : ℕ)
     → price ≡ cost (length firsts) (length lasts) → names ≡ first_named s.columns

@@ -64,7 +64,7 @@ goes-on (AddRow name cells) next answer o = absurd o
 goes-on (SetRow name number cells) next answer o = absurd o
 goes-on (TakeRow name number) next answer o = absurd o
 
-leads-asks : {p q : Plan} {u v : Keeping} → OnlyAsks p → Leads p u q v → Same u.stored v.stored × OnlyAsks q
+leads-asks : {p : Plan} {u : Keeping} {q : Plan} {v : Keeping} → OnlyAsks p → Leads p u q v → Same u.stored v.stored × OnlyAsks q
 leads-asks {u = u} o here = (same-refl u.stored, o)
 leads-asks {u = u} {v = w} o (behind {call = call} {next = next} {answer = answer} {v = v} l c) =
     let h = leads-asks o l in

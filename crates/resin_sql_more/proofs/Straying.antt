@@ -1,11 +1,15 @@
 -- Columns of a condition that are of neither table, by its parts.
-use Rattle.std.proofs.Common.{◌≡◌, List, Bool, map, sym, ap, ◌∙◌}
+use Rattle.std.proofs.Common.{◌≡◌, List, [], ◌∷◌, ◌||◌, Bool, map, refl, sym, ap, ◌∙◌}
 use Rattle.std.specs.List.{list_any}
 use Rattle.resin_sql.specs.declared.tree.Condition.{Condition, Condition-F, fold-Condition, fold-roll-Condition}
 use Rattle.resin_sql.specs.declared.tree.Condition.TheVariants as c
 use Rattle.resin_sql.specs.declared.tree.Test.{Test}
 use Rattle.resin_joint.specs.declared.tree.JoinStmt.{JoinStmt}
 use Rattle.resin_sql_more.specs.Joins.{level_strays, condition_strays}
+
+pub any-map : (f : Condition → Bool) (ps : List Condition) → list_any f ps ≡ list_any (λ b. b) (map f ps)
+any-map f [] = refl
+any-map f (p ∷ ps) = ap (λ b. f p || b) (any-map f ps)
 
 pub strays_test : (s : JoinStmt) (t : Test) → condition_strays s (c.Test t) ≡ level_strays s (Condition-F.Test t)
 unfolding condition_strays

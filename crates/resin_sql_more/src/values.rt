@@ -1,6 +1,6 @@
 //! What the items of a total make of their cells.
 
-ghost use Rattle.std.specs.Prelude.{◌≡◌, ◌<◌, ◌^◌, ◌++◌, ◌∷◌, ◌⊎◌, pos, Err, IfOk, OnOk};
+ghost use Rattle.std.specs.Prelude.{◌≡◌, ◌<◌, ◌^◌, ◌++◌, ◌∷◌, [], ◌⊎◌, pos, Err, IfOk, OnOk};
 ghost use Rattle.resin_sql_more.specs.Values as spec;
 ghost use Rattle.resin_sql_more.specs.declared.values.TotalFault.TheVariants.{Memory};
 

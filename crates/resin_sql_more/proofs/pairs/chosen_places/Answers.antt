@@ -2,7 +2,7 @@ use Rattle.std.proofs.Common.{map}
 use Rattle.resin_rows.specs.Cells.{beside}
 use Rattle.resin_rows.specs.Rows.{cells_of}
 use Rattle.resin_sql_more.specs.Joins.{pair_at, pair_holds}
-use Rattle.resin_sql_more.proofs.Pairs.{row_turn}
+use Rattle.resin_sql_more.proofs.Pairing.{row_turn}
 use Rattle.resin_sql_more.proofs.pairs.chosen_places.Goals as goal
 
 pub loop-at-preserved : goal.loop-at-preserved

@@ -22,8 +22,8 @@ returns-in-Some g c =
     (ap (total_on c.args.statement.now c.args.values.now c.args.left) (sym c.in_ok-columns.ensures ∙ c.in-Some.is) ∙ ap (total_rows c.args.statement.now c.args.values.now c.args.left) (sym c.as_slice-in-Some.ensures))
     c.total_rows.ensures)
 
-pub returns : goal.returns
+pub returns-in-None : goal.returns-in-None
 unfolding total_plan
-returns g c =
+returns-in-None g c =
     columns_on _ _ _ c.in_ok-kept.kept _ c.as_slice.ensures c.in_ok-kept.ensures
     (refuses NoTable (ap (total_on c.args.statement.now c.args.values.now c.args.left) (sym c.in_ok-columns.ensures ∙ c.in-None.is)))
