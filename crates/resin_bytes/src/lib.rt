@@ -16,3 +16,4 @@ pub use header::{Header, HeaderList};
 pub use number::NumberForm;
 pub use numbers::{leading, numeric};
 pub use paths::lawful_path;
+pub use resin_items::Items;
