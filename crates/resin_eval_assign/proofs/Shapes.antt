@@ -1,12 +1,12 @@
 -- What a form means by its shape, as an equation for each.
 use Rattle.std.proofs.Common.{◌≡◌, ℕ, List, refl}
-use Rattle.resin_eval_merges.specs.Under.tree.declared.expression.Combining.{Combining}
-use Rattle.resin_eval_merges.specs.Under.tree.declared.expression.Expr.{Expr}
-use Rattle.resin_eval_merges.specs.Under.tree.declared.expression.PathStep.{PathStep}
-use Rattle.resin_eval_merges.specs.Under.tree.declared.expression.PathStep.TheVariants as path_step
-use Rattle.resin_eval_merges.specs.Under.tree.declared.expression.Target.{Target}
-use Rattle.resin_eval_merges.specs.Under.tree.declared.expression.Assignment.{Assignment}
-use Rattle.resin_eval_merges.specs.Under.tree.declared.expression.Assignment.TheVariants as assignment
+use Rattle.resin_tree.specs.declared.expression.Combining.{Combining}
+use Rattle.resin_tree.specs.declared.expression.Expr.{Expr}
+use Rattle.resin_tree.specs.declared.expression.PathStep.{PathStep}
+use Rattle.resin_tree.specs.declared.expression.PathStep.TheVariants as path_step
+use Rattle.resin_tree.specs.declared.expression.Target.{Target}
+use Rattle.resin_tree.specs.declared.expression.Assignment.{Assignment}
+use Rattle.resin_tree.specs.declared.expression.Assignment.TheVariants as assignment
 use Rattle.resin_eval_merges.specs.Under.meaning.Programs.{give, ◌>>=◌}
 use Rattle.resin_eval_merges.specs.Under.target.declared.path.Index.TheVariants.{At, Next}
 use Rattle.resin_eval_merges.specs.Under.target.declared.path.Path.{Path}

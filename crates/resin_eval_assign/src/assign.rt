@@ -13,8 +13,8 @@ use resin_eval_merges::under::machine::Stop;
 use resin_eval_merges::under::step_parts::reads::is_nothing;
 use resin_eval_merges::under::step_parts::statements::stored_value;
 use resin_eval_merges::under::target::{Index, Path, fetch, store};
-use resin_eval_merges::under::tree::{Assignment, Combining, Expr, PathStep, Target};
 use resin_eval_merges::under::value::Value;
+use resin_tree::{Assignment, Combining, Expr, PathStep, Target};
 use std::alloc::Global;
 
 /// Assignments, by an evaluator.

@@ -1,9 +1,9 @@
 -- Calls by their forms.
 use Rattle.std.proofs.Common.{◌≡◌, ℕ, List, refl}
 use Rattle.std.specs.Prelude.{codes}
-use Rattle.resin_eval_channels.specs.Under.tree.declared.expression.Call.TheVariants.{Function, Method, Parent, New, Import, outs-Function, outs-Method, outs-Parent, outs-New, outs-Import}
-use Rattle.resin_eval_channels.specs.Under.tree.declared.expression.Expr.{Expr}
-use Rattle.resin_eval_channels.specs.Under.tree.declared.expression.Import.{Import as ImportKind}
+use Rattle.resin_tree.specs.declared.expression.Call.TheVariants.{Function, Method, Parent, New, Import, outs-Function, outs-Method, outs-Parent, outs-New, outs-Import}
+use Rattle.resin_tree.specs.declared.expression.Expr.{Expr}
+use Rattle.resin_tree.specs.declared.expression.Import.{Import as ImportKind}
 use Rattle.resin_eval_channels.specs.Under.machine.Variables.{read}
 use Rattle.resin_eval_channels.specs.Under.machine.Objects.{class_of}
 use Rattle.resin_eval_channels.specs.Under.meaning.Programs.{act, ◌>>=◌}

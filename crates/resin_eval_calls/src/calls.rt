@@ -28,8 +28,8 @@ use resin_eval_channels::under::step_objects::objects::{makeable, with_propertie
 use resin_eval_channels::under::step_parts::names::find_callee;
 use resin_eval_channels::under::step_parts::reads::{list, plain};
 use resin_eval_channels::under::step_parts::statements::catch;
-use resin_eval_channels::under::tree::Call;
 use resin_eval_channels::under::value::{Value, Values};
+use resin_tree::Call;
 use std::alloc::Global;
 
 /// Calls, by an evaluator.

@@ -21,8 +21,8 @@ use resin_step_functions::under::step_parts::operators::{
 };
 use resin_step_functions::under::step_parts::reads::{number, object_list};
 use resin_step_functions::under::step_parts::values::{negated, ruled};
-use resin_step_functions::under::tree::{Combining, Unary};
 use resin_step_functions::under::value::{Value, Values};
+use resin_tree::{Combining, Unary};
 use std::alloc::Global;
 
 /// Merges, and the operators that make them, by an evaluator.

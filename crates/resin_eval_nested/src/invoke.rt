@@ -10,8 +10,8 @@ use resin_step_objects::under::base::{Files, Tables};
 use resin_step_objects::under::heap::{MethodAt, PreludeMethod};
 use resin_step_objects::under::machine::Stop;
 use resin_step_objects::under::meaning_forms::Course;
-use resin_step_objects::under::tree::{Function, Stmt};
 use resin_step_objects::under::value::{Value, Values};
+use resin_tree::{Function, Stmt};
 use std::alloc::Global;
 
 impl<

@@ -11,8 +11,8 @@ use crate::run::Run;
 use resin_step_objects::under::base::{Files, Tables};
 use resin_step_objects::under::machine::Stop;
 use resin_step_objects::under::meaning_forms::Course;
-use resin_step_objects::under::tree::{Expr, Stmt};
 use resin_step_objects::under::value::{Value, Values};
+use resin_tree::{Expr, Stmt};
 use std::alloc::Global;
 use std::marker::PhantomData;
 

@@ -4,6 +4,7 @@
 pub mod step_objects {
     pub use resin_step_objects::{calls, constants, invoke, objects};
 }
+
 pub use resin_step_objects::under::{
     base, bytes, heap, items, journal, label, lstr, machine, meaning_forms, ops, scalar,
     step_parts, target, tree, value,

@@ -3,34 +3,34 @@ use Rattle.std.proofs.Common.{◌≡◌, ℕ, List, true, false, Option, refl}
 use Rattle.std.specs.Prelude.{not, if◌then◌else◌}
 use Rattle.resin_eval_writes.specs.Under.value.declared.value.Value.TheVariants.{Bool as Boolean}
 use Rattle.resin_eval_writes.specs.Under.value.Values.{value_of}
-use Rattle.resin_eval_writes.specs.Under.tree.declared.expression.Literal.{Literal}
-use Rattle.resin_eval_writes.specs.Under.tree.declared.expression.Unary.{Unary}
-use Rattle.resin_eval_writes.specs.Under.tree.declared.expression.Combining.{Combining}
-use Rattle.resin_eval_writes.specs.Under.tree.declared.expression.Comparison.{Comparison}
-use Rattle.resin_eval_writes.specs.Under.tree.declared.expression.Expr.{Expr}
-use Rattle.resin_eval_writes.specs.Under.tree.declared.expression.Expr.TheVariants as expr
-use Rattle.resin_eval_writes.specs.Under.tree.declared.expression.ArrayItem.{ArrayItem}
-use Rattle.resin_eval_writes.specs.Under.tree.declared.expression.Access.{Access}
-use Rattle.resin_eval_writes.specs.Under.tree.declared.expression.Access.TheVariants as access
-use Rattle.resin_eval_writes.specs.Under.tree.declared.expression.Operation.{Operation}
-use Rattle.resin_eval_writes.specs.Under.tree.declared.expression.Operation.TheVariants as operation
-use Rattle.resin_eval_writes.specs.Under.tree.declared.expression.Test.{Test}
-use Rattle.resin_eval_writes.specs.Under.tree.declared.expression.Test.TheVariants as test
-use Rattle.resin_eval_writes.specs.Under.tree.declared.expression.PathStep.{PathStep}
-use Rattle.resin_eval_writes.specs.Under.tree.declared.expression.PathStep.TheVariants as path_step
-use Rattle.resin_eval_writes.specs.Under.tree.declared.expression.Target.{Target}
-use Rattle.resin_eval_writes.specs.Under.tree.declared.expression.Assignment.{Assignment}
-use Rattle.resin_eval_writes.specs.Under.tree.declared.expression.Assignment.TheVariants as assignment
-use Rattle.resin_eval_writes.specs.Under.tree.declared.expression.Call.{Call}
-use Rattle.resin_eval_writes.specs.Under.tree.declared.statement.Simple.{Simple}
-use Rattle.resin_eval_writes.specs.Under.tree.declared.statement.Stmt.{Stmt}
-use Rattle.resin_eval_writes.specs.Under.tree.declared.statement.Branch.{Branch}
-use Rattle.resin_eval_writes.specs.Under.tree.declared.statement.Case.{Case}
-use Rattle.resin_eval_writes.specs.Under.tree.declared.statement.Catch.{Catch}
-use Rattle.resin_eval_writes.specs.Under.tree.declared.statement.Loop.{Loop}
-use Rattle.resin_eval_writes.specs.Under.tree.declared.statement.Loop.TheVariants as loop
-use Rattle.resin_eval_writes.specs.Under.tree.declared.statement.StmtKind.{StmtKind}
-use Rattle.resin_eval_writes.specs.Under.tree.declared.statement.StmtKind.TheVariants as kind
+use Rattle.resin_tree.specs.declared.expression.Literal.{Literal}
+use Rattle.resin_tree.specs.declared.expression.Unary.{Unary}
+use Rattle.resin_tree.specs.declared.expression.Combining.{Combining}
+use Rattle.resin_tree.specs.declared.expression.Comparison.{Comparison}
+use Rattle.resin_tree.specs.declared.expression.Expr.{Expr}
+use Rattle.resin_tree.specs.declared.expression.Expr.TheVariants as expr
+use Rattle.resin_tree.specs.declared.expression.ArrayItem.{ArrayItem}
+use Rattle.resin_tree.specs.declared.expression.Access.{Access}
+use Rattle.resin_tree.specs.declared.expression.Access.TheVariants as access
+use Rattle.resin_tree.specs.declared.expression.Operation.{Operation}
+use Rattle.resin_tree.specs.declared.expression.Operation.TheVariants as operation
+use Rattle.resin_tree.specs.declared.expression.Test.{Test}
+use Rattle.resin_tree.specs.declared.expression.Test.TheVariants as test
+use Rattle.resin_tree.specs.declared.expression.PathStep.{PathStep}
+use Rattle.resin_tree.specs.declared.expression.PathStep.TheVariants as path_step
+use Rattle.resin_tree.specs.declared.expression.Target.{Target}
+use Rattle.resin_tree.specs.declared.expression.Assignment.{Assignment}
+use Rattle.resin_tree.specs.declared.expression.Assignment.TheVariants as assignment
+use Rattle.resin_tree.specs.declared.expression.Call.{Call}
+use Rattle.resin_tree.specs.declared.statement.Simple.{Simple}
+use Rattle.resin_tree.specs.declared.statement.Stmt.{Stmt}
+use Rattle.resin_tree.specs.declared.statement.Branch.{Branch}
+use Rattle.resin_tree.specs.declared.statement.Case.{Case}
+use Rattle.resin_tree.specs.declared.statement.Catch.{Catch}
+use Rattle.resin_tree.specs.declared.statement.Loop.{Loop}
+use Rattle.resin_tree.specs.declared.statement.Loop.TheVariants as loop
+use Rattle.resin_tree.specs.declared.statement.StmtKind.{StmtKind}
+use Rattle.resin_tree.specs.declared.statement.StmtKind.TheVariants as kind
 use Rattle.resin_eval_writes.specs.Under.machine.Variables.{read}
 use Rattle.resin_eval_writes.specs.Under.meaning.Programs.{give, act, ◌>>=◌}
 use Rattle.resin_eval_writes.specs.Under.target.declared.path.Index.TheVariants.{At, Next}

@@ -8,8 +8,8 @@ use Rattle.resin_eval_writes.specs.Under.scalar.declared.faults.ScriptFault.TheV
 use Rattle.resin_eval_writes.specs.Under.value.Arrays.{Array}
 use Rattle.resin_eval_writes.specs.Under.value.declared.value.Value.{Value}
 use Rattle.resin_eval_writes.specs.Under.value.declared.value.Value.TheVariants.{Null, Bool as Boolean, Int, Text, Arr, Obj}
-use Rattle.resin_eval_writes.specs.Under.tree.declared.expression.Expr.{Expr}
-use Rattle.resin_eval_writes.specs.Under.tree.declared.statement.Stmt.{Stmt}
+use Rattle.resin_tree.specs.declared.expression.Expr.{Expr}
+use Rattle.resin_tree.specs.declared.statement.Stmt.{Stmt}
 use Rattle.resin_eval_writes.specs.Under.machine.declared.stop.Stop.{Stop}
 use Rattle.resin_eval_writes.specs.Under.machine.declared.stop.Stop.TheVariants.{Thrown, Fault}
 use Rattle.resin_eval_writes.specs.Under.machine.State.{State}

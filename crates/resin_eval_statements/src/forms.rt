@@ -20,11 +20,9 @@ use resin_eval_writes::under::step_parts::statements::{
     assign_entry, bind_all, catch, catches, closing, throw, turn_end,
 };
 use resin_eval_writes::under::target::erase;
-use resin_eval_writes::under::tree::{
-    Branch, Case, Catch, Expr, Loop, Simple, Stmt, StmtKind, Target,
-};
 use resin_eval_writes::under::value::{Arr, Value};
 use resin_eval_writes::writes::Writer;
+use resin_tree::{Branch, Case, Catch, Expr, Loop, Simple, Stmt, StmtKind, Target};
 use std::alloc::Global;
 
 /// Statements, by an evaluator.

@@ -5,12 +5,12 @@ use Rattle.std.specs.List.{list_any}
 use Rattle.resin_eval_calls.specs.Under.value.declared.value.Value.{Value}
 use Rattle.resin_eval_calls.specs.Under.value.Trees.{object}
 use Rattle.resin_eval_calls.specs.Under.value.Seen.{tree_of}
-use Rattle.resin_eval_calls.specs.Under.tree.declared.expression.Expr.{Expr}
-use Rattle.resin_eval_calls.specs.Under.tree.declared.statement.Case.{Case, out-Case}
-use Rattle.resin_eval_calls.specs.Under.tree.declared.statement.Catch.{Catch, out-Catch}
+use Rattle.resin_tree.specs.declared.expression.Expr.{Expr}
+use Rattle.resin_tree.specs.declared.statement.Case.{Case, out-Case}
+use Rattle.resin_tree.specs.declared.statement.Catch.{Catch, out-Catch}
 use Rattle.resin_eval_calls.specs.Under.machine.declared.stop.Stop.{Stop}
 use Rattle.resin_eval_calls.specs.Under.machine.declared.stop.Stop.TheVariants.{Memory}
-use Rattle.resin_eval_calls.specs.Under.tree.declared.expression.ArrayItem.{ArrayItem}
+use Rattle.resin_tree.specs.declared.expression.ArrayItem.{ArrayItem}
 use Rattle.resin_eval_calls.specs.Under.value.Arrays.{Array}
 use Rattle.resin_eval_calls.specs.Under.meaning_forms.Expressions.{items}
 use Rattle.resin_eval_calls.proofs.meaning_lemmas.Composition.{does_next, does_give, does_unbegun_exit}

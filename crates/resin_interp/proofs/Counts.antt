@@ -10,9 +10,9 @@ use Rattle.resin_eval_calls.specs.Under.value.Seen.{tree_of, trees_of}
 use Rattle.resin_eval_calls.specs.Under.builtin.declared.builtin.Builtin.{Builtin}
 use Rattle.resin_eval_calls.specs.Under.builtin.declared.signatures.Sig.{Sig}
 use Rattle.resin_eval_calls.specs.Under.builtin.Signatures.{sig_of}
-use Rattle.resin_eval_calls.specs.Under.tree.declared.declaration.Item.{Item}
-use Rattle.resin_eval_calls.specs.Under.tree.declared.declaration.Item.TheVariants.{Function, Class, Statement}
-use Rattle.resin_eval_calls.specs.Under.tree.declared.statement.Stmt.{Stmt}
+use Rattle.resin_tree.specs.declared.declaration.Item.{Item}
+use Rattle.resin_tree.specs.declared.declaration.Item.TheVariants.{Function, Class, Statement}
+use Rattle.resin_tree.specs.declared.statement.Stmt.{Stmt}
 use Rattle.resin_eval_calls.specs.Under.meaning_forms.Programs.{statement_in}
 
 -- ---- the statements of a file

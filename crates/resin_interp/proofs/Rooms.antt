@@ -7,17 +7,17 @@ use Rattle.resin_eval_calls.specs.Under.base.TableStore.{TableStore}
 use Rattle.resin_eval_calls.specs.Under.base.declared.calls.Calls.{Calls}
 use Rattle.resin_eval_calls.specs.Under.scalar.declared.faults.ScriptFault.TheVariants.{DepthSpent}
 use Rattle.resin_eval_calls.specs.Under.value.declared.value.Value.{Value}
-use Rattle.resin_eval_calls.specs.Under.tree.declared.expression.Access.{Access}
-use Rattle.resin_eval_calls.specs.Under.tree.declared.expression.ArrayItem.{ArrayItem}
-use Rattle.resin_eval_calls.specs.Under.tree.declared.expression.Assignment.{Assignment}
-use Rattle.resin_eval_calls.specs.Under.tree.declared.expression.Call.{Call}
-use Rattle.resin_eval_calls.specs.Under.tree.declared.expression.Expr.{Expr, Expr-F, out-Expr, roll-Expr, roll-out-Expr, out-roll-Expr}
-use Rattle.resin_eval_calls.specs.Under.tree.declared.expression.Expr.TheVariants as expr
-use Rattle.resin_eval_calls.specs.Under.tree.declared.expression.Operation.{Operation}
-use Rattle.resin_eval_calls.specs.Under.tree.declared.expression.PathStep.{PathStep}
-use Rattle.resin_eval_calls.specs.Under.tree.declared.expression.Target.{Target}
-use Rattle.resin_eval_calls.specs.Under.tree.declared.expression.Test.{Test}
-use Rattle.resin_eval_calls.specs.Under.tree.declared.statement.Stmt.{Stmt}
+use Rattle.resin_tree.specs.declared.expression.Access.{Access}
+use Rattle.resin_tree.specs.declared.expression.ArrayItem.{ArrayItem}
+use Rattle.resin_tree.specs.declared.expression.Assignment.{Assignment}
+use Rattle.resin_tree.specs.declared.expression.Call.{Call}
+use Rattle.resin_tree.specs.declared.expression.Expr.{Expr, Expr-F, out-Expr, roll-Expr, roll-out-Expr, out-roll-Expr}
+use Rattle.resin_tree.specs.declared.expression.Expr.TheVariants as expr
+use Rattle.resin_tree.specs.declared.expression.Operation.{Operation}
+use Rattle.resin_tree.specs.declared.expression.PathStep.{PathStep}
+use Rattle.resin_tree.specs.declared.expression.Target.{Target}
+use Rattle.resin_tree.specs.declared.expression.Test.{Test}
+use Rattle.resin_tree.specs.declared.statement.Stmt.{Stmt}
 use Rattle.resin_eval_calls.specs.Under.machine.declared.stop.Stop.{Stop}
 use Rattle.resin_eval_calls.specs.Under.machine.declared.stop.Stop.TheVariants.{Fault}
 use Rattle.resin_eval_calls.specs.Under.machine.State.{State}

@@ -10,9 +10,9 @@ use resin_eval_calls::under::base::{Calls, Files, Tables};
 use resin_eval_calls::under::eval_nested::run::Run;
 use resin_eval_calls::under::machine::{Machine, Stop};
 use resin_eval_calls::under::meaning_forms::Flow;
-use resin_eval_calls::under::tree::Program;
 use resin_eval_calls::under::value::{Value, Values};
 use resin_lend::lend_four;
+use resin_tree::Program;
 use std::alloc::Global;
 
 // One call of `f` with a run made of these, which is taken apart again.

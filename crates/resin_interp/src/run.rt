@@ -24,10 +24,10 @@ use resin_eval_calls::under::step_parts::reads::{
     index_of, is_nothing, keyed, literal_value, property_of, with_entry,
 };
 use resin_eval_calls::under::step_parts::values::texts_joined;
-use resin_eval_calls::under::tree::{Access, ArrayItem, Expr, Operation, Stmt, Test};
 use resin_eval_calls::under::value::{Arr, Key, Value};
 use resin_eval_statements::forms::Statements;
 use resin_eval_statements::under::eval_assign::assign::Assigner;
+use resin_tree::{Access, ArrayItem, Expr, Operation, Stmt, Test};
 use std::alloc::Global;
 use std::marker::PhantomData;
 

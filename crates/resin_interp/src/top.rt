@@ -20,8 +20,8 @@ use resin_eval_calls::under::machine::Stop;
 use resin_eval_calls::under::meaning_forms::{Course, Flow, Outgoing};
 use resin_eval_calls::under::step_parts::declarations::declare_all;
 use resin_eval_calls::under::step_parts::names::find_callee;
-use resin_eval_calls::under::tree::{Item, Program};
 use resin_eval_calls::under::value::{Value, Values};
+use resin_tree::{Item, Program};
 use std::alloc::{AllocError, Global};
 use std::marker::PhantomData;
 

@@ -2,8 +2,11 @@
 
 /// `resin_step_parts`
 pub mod step_parts {
-    pub use resin_step_parts::{channels, declarations, names, operators, reads, statements, values};
+    pub use resin_step_parts::{
+        channels, declarations, names, operators, reads, statements, values,
+    };
 }
+
 pub use resin_step_parts::under::{
     base, bytes, heap, items, journal, label, lstr, machine, meaning, meaning_forms, ops, scalar,
     target, value,
