@@ -3,7 +3,7 @@ pub mod Orders
 pub mod Others
 pub mod Prepared
 pub mod HeaderLines
-pub mod Writes
+pub mod WriteLemmas
 pub mod eval_nested_lemmas
 -- Passed on to the crates above, which list this one alone.
 pub use Rattle.resin_eval_nested.proofs.meaning_lemmas

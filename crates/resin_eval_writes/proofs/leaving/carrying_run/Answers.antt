@@ -1,4 +1,4 @@
-use Rattle.resin_eval_writes.proofs.Writes.{carried_range}
+use Rattle.resin_eval_writes.proofs.WriteLemmas.{carried_range}
 use Rattle.std.proofs.Common.{ap, sym, ◌∙◌}
 use Rattle.std.specs.Prelude.{unwrap_or}
 use Rattle.resin_eval_writes.proofs.leaving.carrying_run.Goals as goal

@@ -1,5 +1,5 @@
 use Rattle.resin_eval_nested.specs.Under.meaning_forms.Writes.{channel_of}
-use Rattle.resin_eval_writes.proofs.Writes.{chain_asked}
+use Rattle.resin_eval_writes.proofs.WriteLemmas.{chain_asked}
 use Rattle.resin_eval_nested.specs.Under.scope.Chained.{chain_of}
 use Rattle.std.proofs.Common.{ap, sym, ◌∙◌}
 use Rattle.resin_eval_writes.proofs.leaving.chain_for.Goals as goal

@@ -1,6 +1,6 @@
 use Rattle.resin_eval_nested.proofs.meaning_lemmas.Composition.{does_act}
 use Rattle.resin_eval_nested.proofs.step_parts_lemmas.Steps.{does_handed}
-use Rattle.resin_eval_writes.proofs.Writes.{denial_stops, denied, passes_on}
+use Rattle.resin_eval_writes.proofs.WriteLemmas.{denial_stops, denied, passes_on}
 use Rattle.resin_eval_writes.proofs.leaving.judge.Goals as goal
 
 pub returns-in-Ok-clause-does : goal.returns-in-Ok-clause-does

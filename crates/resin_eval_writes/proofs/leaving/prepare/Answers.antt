@@ -1,5 +1,5 @@
 use Rattle.resin_eval_nested.proofs.meaning_lemmas.Composition.{does_give, does_unbegun_exit}
-use Rattle.resin_eval_writes.proofs.Writes.{line_passes, line_throws}
+use Rattle.resin_eval_writes.proofs.WriteLemmas.{line_passes, line_throws}
 use Rattle.resin_eval_writes.proofs.leaving.prepare.Goals as goal
 
 pub returns-in-Page : goal.returns-in-Page

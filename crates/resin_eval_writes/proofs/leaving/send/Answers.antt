@@ -1,5 +1,5 @@
 use Rattle.resin_eval_nested.proofs.meaning_lemmas.Composition.{does_act, does_loosely, does_unbegun_exit}
-use Rattle.resin_eval_writes.proofs.Writes.{line_sent, line_unsent}
+use Rattle.resin_eval_writes.proofs.WriteLemmas.{line_sent, line_unsent}
 use Rattle.std.proofs.Common.{sym, ◌∙◌}
 use Rattle.resin_eval_writes.proofs.leaving.send.Goals as goal
 
