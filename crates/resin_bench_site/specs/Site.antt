@@ -1,5 +1,5 @@
 -- The site of a sample run: three files (this project).
-use Rattle.std.specs.Prelude.{◌≡◌, ℕ, ◌<◌, List, [], ◌∷◌, length, take, codes}
+use Rattle.std.specs.Prelude.{ℕ, List, [], ◌∷◌, codes}
 use Rattle.resin_base.specs.FileStore.{FileStore, with_entry}
 
 -- what runs before each page: a policy whose check refuses every channel where its number divided by 7 leaves 3
@@ -24,7 +24,3 @@ site_files = (codes "boot.php", boot_text) ∷ (codes "w.php", writing_text) ∷
 abbrev pub with_files : FileStore → List (List ℕ × List ℕ) → FileStore
 with_files s [] = s
 with_files s (f ∷ fs) = with_files (with_entry s f.0 f.1 []) fs
-
--- some first files of the site were written, or none, but not all
-abbrev pub HasFront : FileStore → FileStore → Type 0
-HasFront before now = (count : ℕ) × (count < length site_files) × (now ≡ with_files before (take count site_files))

@@ -1,6 +1,6 @@
 //! The site of a sample run.
 ghost use Rattle.std.specs.Prelude.{◌≡◌, OnOk, OnErr};
-ghost use Rattle.resin_bench_site.specs.Site.{site_files, with_files, HasFront};
+ghost use Rattle.resin_bench_site.specs.Site.{site_files, with_files};
 
 use resin_memory::CalmFiles;
 use std::alloc::AllocError;
@@ -17,13 +17,15 @@ const WRITING: &[u8] =
 const READING: &[u8] = b"<?php echo '[', file_get_contents('f' . ((int)$_GET['n'] % 10)), ']';";
 
 /// Writes the site of a sample run: `boot.php`, `w.php` and `r.php`, in this order and with empty shadow texts (FORMATS.md, "The
-/// sample"). Files at other paths stay as they are, and what stood at these is gone. After want of memory some first files of the
-/// three are written, or none, but not all.
+/// sample"). Files at other paths stay as they are, and what stood at these is gone. After want of memory all files are as before.
 pub fn sample_site(files: &mut CalmFiles) -> Result<(), AllocError>
     ensures ok { OnOk result (files.new ≡ with_files files.old site_files) }
-    ensures err { OnErr result (HasFront files.old files.new) }
+    ensures err { OnErr result (files.new ≡ files.old) }
 {
-    files.put(b"boot.php", BOOT, b"")?;
-    files.put(b"w.php", WRITING, b"")?;
-    files.put(b"r.php", READING, b"")
+    let mut site = files.copy()?;
+    site.put(b"boot.php", BOOT, b"")?;
+    site.put(b"w.php", WRITING, b"")?;
+    site.put(b"r.php", READING, b"")?;
+    *files = site;
+    Ok(())
 }

@@ -1,5 +1,5 @@
 //! Files in memory that never fail.
-ghost use Rattle.std.specs.Prelude.{◌≡◌, OnOk, OnErr};
+ghost use Rattle.std.specs.Prelude.{◌≡◌, OnOk, OnErr, IfOk};
 ghost use Rattle.std.specs.FinMap as map;
 
 use crate::file_map::FileMap;
@@ -35,6 +35,15 @@ impl CalmFiles {
         CalmFiles {
             files: FileMap::new(alloc),
         }
+    }
+
+    /// Files of their own that hold the same entries. It takes memory and time in proportion to what these hold. This is no keeper call.
+    pub fn copy(&self) -> Result<CalmFiles, AllocError>
+        ensures { IfOk result (λ copy. copy ≡ self.now) }
+    {
+        Ok(CalmFiles {
+            files: self.files.copy()?,
+        })
     }
 
     /// Sets the entry at a path, its bytes and its shadow text. This is no keeper call. After want of memory the files are as before.

@@ -66,6 +66,16 @@ impl FileMap {
         }
     }
 
+    /// A copy of the map.
+    pub(crate) fn copy(&self) -> Result<FileMap, AllocError>
+        ensures { IfOk result (λ copy. copy ≡ self.now) }
+    {
+        Ok(FileMap {
+            alloc: self.alloc,
+            entries: copy_entries(self.alloc, &self.entries)?,
+        })
+    }
+
     /// Sets the entry at a path. After want of memory the map is as before.
     pub(crate) fn put(&mut self, path: &[u8], bytes: &[u8], shadow: &[u8]) -> Result<(), AllocError>
         ensures ok { OnOk result (self.new ≡ with_entry self.old path.now bytes.now shadow.now) }
@@ -94,6 +104,21 @@ fn keep_others(entries: &mut Vec<(Bytes, Entry)>, path: &[u8])
     ensures { from_entries {R = byte_order} entries.new.items ≡ remove (from_entries entries.old.items) path.now }
 {
     entries.retain(|entry| entry.0.as_slice() != path);
+}
+
+// Copies of entries with their paths.
+fn copy_entries(
+    alloc: Global,
+    entries: &[(Bytes, Entry)],
+) -> Result<Vec<(Bytes, Entry)>, AllocError>
+    ensures { IfOk result (λ copy. copy.items ≡ entries.now) }
+{
+    let mut copy = Vec::new(alloc);
+    for entry in entries {
+        let path = Bytes::from_slice(alloc, entry.0.as_slice())?;
+        copy.push((path, copy_of(alloc, &entry.1)?))?;
+    }
+    Ok(copy)
 }
 
 // A copy of an entry.

@@ -5,15 +5,15 @@ ghost use Rattle.std.specs.FinMap.{empty, get, contains_key, insert, remove};
 ghost use Rattle.resin_scope.specs.Names.{name_order};
 
 use std::alloc::{AllocError, Global};
-use std::collections::HashMap;
+use std::collections::BTreeMap;
 use std::marker::Model;
 use std::mem;
 
-/// What each of some names stands for. A name is found by a hash of its bytes; no order of the names shows.
+/// What each of some names stands for. A name is found in the order of the bytes, in steps of the logarithm of how many names there are, whatever they are.
 #[derive(Drop)]
 pub struct NameMap<V> {
     alloc: Global,
-    values: HashMap<Vec<u8>, V>,
+    values: BTreeMap<Vec<u8>, V>,
 }
 
 impl<V> Model for NameMap<V> {
@@ -34,7 +34,7 @@ impl<V: Drop> NameMap<V> {
     {
         NameMap {
             alloc,
-            values: HashMap::new(alloc),
+            values: BTreeMap::new(alloc),
         }
     }
 
@@ -57,11 +57,13 @@ impl<V: Drop> NameMap<V> {
         ensures ok { OnOk result (self.new ≡ insert self.old name.now value) }
         ensures err { OnErr result (self.new ≡ self.old) }
     {
-        if self.has(name) {
-            let _old = self.exchange(name, value);
-            return Ok(());
+        match self.values.get_mut(name) {
+            Some(slot) => {
+                *slot = value;
+                Ok(())
+            }
+            None => self.add(name, value),
         }
-        self.add(name, value)
     }
 
     // Lets a new name stand for a value.

@@ -1,0 +1,6 @@
+-- The entries before the index are copied.
+use Rattle.std.proofs.Common.{◌≡◌, take}
+use Rattle.resin_memory.proofs.file_map.copy_entries.Given as goal
+
+abbrev pub invariant-loop-entry : goal.invariant-loop-entry
+invariant-loop-entry l = l.copy.items ≡ take l.entry-index l.entries
