@@ -1,5 +1,6 @@
 //! The trace of a sample run.
 ghost use Rattle.std.specs.Prelude.{◌≡◌, ◌++◌, ◌≤◌, length, decimal, OnOk, IfOk};
+ghost use Rattle.resin_trace.specs.Verdicts.{IsGood};
 ghost use Rattle.resin_bench_site.specs.Trace.{request_text, first_half, second_half, piece_record, by_halves, records_for, trace_text};
 
 use itoa::Buffer;
@@ -77,9 +78,10 @@ fn push_records(alloc: Global, trace: &mut Bytes, k: u32) -> Result<(), AllocErr
 
 /// The trace of a sample run (FORMATS.md, "The sample"): for each k from 1 to n four records, the halves of a request to `w.php` on
 /// connection 1 and those of a request to `r.php` on connection 2, by turns. So it has 2n requests. It is empty where n is 0, and has
-/// about a hundred bytes for each k: 1,028,890 for 10,000.
+/// about a hundred bytes for each k: 1,028,890 for 10,000. Up to that number it is a good trace.
 pub fn sample_trace(alloc: Global, n: u32) -> Result<Bytes, AllocError>
-    ensures { IfOk result (λ trace. trace ≡ trace_text n) }
+    ensures text { IfOk result (λ trace. trace ≡ trace_text n) }
+    ensures good { n ≤ 10000 → IfOk result (λ trace. IsGood trace) }
 {
     let mut trace = Bytes::new(alloc);
     for k in 1..=n {
