@@ -20,8 +20,6 @@ pub(crate) enum Fault {
     TraceTooLong,
     #[error("out of memory")]
     Memory,
-    #[error("not built yet")]
-    NotYet,
     #[error("audit refused")]
     AuditRefused,
 }
@@ -37,7 +35,6 @@ impl Fault {
             Status::WriteFault => Some(Fault::Write),
             Status::TraceTooLong => Some(Fault::TraceTooLong),
             Status::Memory => Some(Fault::Memory),
-            Status::NotYet => Some(Fault::NotYet),
             Status::AuditRefused => Some(Fault::AuditRefused),
         }
     }
@@ -56,7 +53,6 @@ impl Fault {
             Fault::Write => Status::WriteFault,
             Fault::TraceTooLong => Status::TraceTooLong,
             Fault::Memory => Status::Memory,
-            Fault::NotYet => Status::NotYet,
             Fault::AuditRefused => Status::AuditRefused,
         }
     }

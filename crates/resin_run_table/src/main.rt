@@ -4,8 +4,8 @@
 //! The kinds are:
 //!
 //! - `calm`: a trace, from a source that never fails, to an output that never fails. `times N` gives it N times over.
-//! - `fake`: the same, from a source that gives `chunk N` bytes at most, to an output that takes `sink N` at most. `read N`, `write N` and `file
-//!   N` let the Nth call of the source, of the output or of the files fail.
+//! - `fake`: the same, from a source that gives `chunk N` bytes at most, to an output that takes `sink N` at most. `read N`, `write N`, `log N` and
+//!   `file N` let the Nth call of the source, of the output, of the log or of the files fail.
 //! - `left`: the same, and only the status is printed, with what the source gives next to a buffer of 65,536 bytes.
 //! - `singly`: as `calm`, but the stream of one connection, of which each byte is a record: its front, and more texts, each behind the number of
 //!   times that it comes.

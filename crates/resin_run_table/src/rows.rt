@@ -87,8 +87,13 @@ fn cuts(alloc: Global, fields: &str) -> Result<String, AllocError> {
 }
 
 fn code(alloc: Global, word: &str) -> Result<String, AllocError> {
-    let code = status_of(word).code();
-    format!(in alloc; "{code}")
+    match status_of(word) {
+        Some(status) => {
+            let code = status.code();
+            format!(in alloc; "{code}")
+        }
+        None => String::from_str(alloc, "?"),
+    }
 }
 
 /// What is printed for a row.

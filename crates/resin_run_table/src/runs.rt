@@ -52,20 +52,21 @@ fn site_of(alloc: Global, settings: &str, fields: &str) -> Result<FakeFiles, All
 #[derive(Drop)]
 pub struct Left {
     pub ended: Ended,
-    log: CalmSink,
+    log: FakeSink,
     mail: CalmSink,
 }
 
-// Serves a source to an output.
+// Serves a source to an output. The log is what settings tell of.
 fn served<S: Source, O: Sink>(
     alloc: Global,
+    settings: &str,
     words: &str,
     source: &mut S,
     out: &mut O,
     files: &mut FakeFiles,
 ) -> Result<Left, AllocError> {
     let words = words_of(alloc, words)?;
-    let mut log = CalmSink::new(alloc);
+    let mut log = FakeSink::new(alloc, 1_000_000, list_of(alloc, settings, "log")?);
     let mut mail = CalmSink::new(alloc);
     let mut tables = CalmTables::new(alloc);
     let ended = serve(
@@ -89,9 +90,9 @@ fn repeated(alloc: Global, settings: &str, trace: &str) -> Result<Bytes, AllocEr
     Ok(bytes)
 }
 
-/// The status that a word names.
-pub fn status_of(word: &str) -> Status {
-    match word {
+/// The status that a word names, None where it names none.
+pub fn status_of(word: &str) -> Option<Status> {
+    let status = match word {
         "ok" => Status::Ok,
         "usage" => Status::Usage,
         "bad_trace" => Status::BadTrace { offset: 9 },
@@ -100,8 +101,9 @@ pub fn status_of(word: &str) -> Status {
         "trace_too_long" => Status::TraceTooLong,
         "memory" => Status::Memory,
         "audit_refused" => Status::AuditRefused,
-        _ => Status::NotYet,
-    }
+        _ => return None,
+    };
+    Some(status)
 }
 
 /// Adds a status and its exit code.
@@ -115,7 +117,6 @@ pub fn push_status(out: &mut String, status: Status) -> Result<(), AllocError> {
         Status::WriteFault => out.push_str("write fault")?,
         Status::TraceTooLong => out.push_str("trace too long")?,
         Status::Memory => out.push_str("memory")?,
-        Status::NotYet => out.push_str("not yet")?,
         Status::AuditRefused => out.push_str("audit refused")?,
     }
     write!(out, ", code {code}")
@@ -146,7 +147,7 @@ pub fn calm_run(
     let mut source = CalmSource::new(trace);
     let mut out = CalmSink::new(alloc);
     let mut files = site_of(alloc, "", files)?;
-    let left = served(alloc, words, &mut source, &mut out, &mut files)?;
+    let left = served(alloc, "", words, &mut source, &mut out, &mut files)?;
     Ok((left, out))
 }
 
@@ -180,7 +181,7 @@ pub fn fake(alloc: Global, settings: &str, fields: &str) -> Result<String, Alloc
     let mut source = source_of(alloc, settings, trace)?;
     let mut out = sink_of(alloc, settings)?;
     let mut files = site_of(alloc, settings, files)?;
-    let left = served(alloc, words, &mut source, &mut out, &mut files)?;
+    let left = served(alloc, settings, words, &mut source, &mut out, &mut files)?;
     shown(alloc, &left, out.written())
 }
 
@@ -191,7 +192,7 @@ pub fn left_after(alloc: Global, settings: &str, fields: &str) -> Result<String,
     let mut source = source_of(alloc, settings, trace)?;
     let mut out = sink_of(alloc, settings)?;
     let mut files = site_of(alloc, settings, files)?;
-    let left = served(alloc, words, &mut source, &mut out, &mut files)?;
+    let left = served(alloc, settings, words, &mut source, &mut out, &mut files)?;
     let mut buffer = [0u8; 65536];
     let count = source.take(&mut buffer).unwrap_or(0);
     let mut text = String::new(alloc);

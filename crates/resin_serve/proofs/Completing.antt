@@ -7,7 +7,7 @@ use Rattle.resin_trace.specs.declared.reader.TraceFault.TheVariants.{Bad, TooLon
 use Rattle.resin_trace.specs.Verdicts.{IsGood}
 use Rattle.resin_trace.proofs.Verdicts_of.{one_end}
 use Rattle.resin_serve.specs.declared.status.Status.{Status}
-use Rattle.resin_serve.specs.declared.status.Status.TheVariants.{Usage, BadTrace, ReadFault, WriteFault, TraceTooLong, NotYet, AuditRefused}
+use Rattle.resin_serve.specs.declared.status.Status.TheVariants.{Usage, BadTrace, ReadFault, WriteFault, TraceTooLong, AuditRefused}
 use Rattle.resin_serve.specs.declared.status.Status.TheVariants.{Ok as StatusOk, Memory as StatusMemory}
 use Rattle.resin_serve.specs.declared.logging.Logging.{Logging}
 use Rattle.resin_serve.specs.Asked.{meaning}
@@ -31,7 +31,6 @@ completes WriteFault R K T U old new s s' r r' k k' run g (inr (inl c)) a calm =
 completes WriteFault R K T U old new s s' r r' k k' run g (inr (inr c)) a calm = calm.out_stays c
 completes TraceTooLong R K T U old new s s' r r' k k' run g c a calm = let e = one_end T (Ok tt) (Err TooLong) g run.0 in cc
 completes StatusMemory R K T U old new s s' r r' k k' run g c a calm = tt
-completes NotYet R K T U old new s s' r r' k k' run g c a calm = run
 completes AuditRefused R K T U old new s s' r r' k k' run g c a calm = run
 
 -- a count that didn't rise stands where it stood, below its last value

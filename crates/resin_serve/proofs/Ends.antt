@@ -5,7 +5,7 @@ use Rattle.resin_trace.specs.Seen.{Seen}
 use Rattle.resin_serve.specs.declared.give.Given.{Given}
 use Rattle.resin_serve.specs.declared.give.Given.TheVariants.{Whole, Fault, Memory as GivenMemory}
 use Rattle.resin_serve.specs.declared.status.Status.{Status}
-use Rattle.resin_serve.specs.declared.status.Status.TheVariants.{Usage, BadTrace, ReadFault, WriteFault, TraceTooLong, NotYet, AuditRefused}
+use Rattle.resin_serve.specs.declared.status.Status.TheVariants.{Usage, BadTrace, ReadFault, WriteFault, TraceTooLong, AuditRefused}
 use Rattle.resin_serve.specs.declared.status.Status.TheVariants.{Ok as StatusOk, Memory as StatusMemory}
 use Rattle.resin_serve.specs.Gives.{Counts, Sinks, sinks, Caused, CausedIn}
 use Rattle.resin_serve.specs.Kept.{Keepers, keepers, Kept}
@@ -23,7 +23,6 @@ ends_run s ReadFault f = tt
 ends_run s WriteFault f = tt
 ends_run s TraceTooLong f = tt
 ends_run s StatusMemory f = tt
-ends_run s NotYet f = f
 ends_run s AuditRefused f = f
 
 -- no call was made
@@ -55,5 +54,4 @@ completes_audit WriteFault text old new s s' r r' k k' a l (inr (inl c)) x calm 
 completes_audit WriteFault text old new s s' r r' k k' a l (inr (inr c)) x calm = calm.out_stays c
 completes_audit TraceTooLong text old new s s' r r' k k' a l c x calm = let m : limit < length text = a.0 in absurd (omega arith)
 completes_audit StatusMemory text old new s s' r r' k k' a l c x calm = tt
-completes_audit NotYet text old new s s' r r' k k' a l c x calm = a
 completes_audit AuditRefused text old new s s' r r' k k' a l c x calm = tt

@@ -23,7 +23,7 @@ use Rattle.resin_serve.specs.declared.run.Ready.{Ready}
 use Rattle.resin_serve.specs.declared.run.Ready.TheVariants.{Wait, Bad, TooLong}
 use Rattle.resin_serve.specs.declared.status.Status.{Status}
 use Rattle.resin_serve.specs.declared.status.Status.TheVariants.{Usage, BadTrace, ReadFault, WriteFault, TraceTooLong, AuditRefused}
-use Rattle.resin_serve.specs.declared.status.Status.TheVariants.{Ok as StatusOk, Memory as StatusMemory, NotYet as StatusNotYet}
+use Rattle.resin_serve.specs.declared.status.Status.TheVariants.{Ok as StatusOk, Memory as StatusMemory}
 use Rattle.resin_site.specs.Under.http.Stream.{answers_in}
 use Rattle.resin_serve.specs.Meaning.{Meaning, Owed, fresh, order, life}
 use Rattle.resin_serve.specs.Ran.{World, Ran}
@@ -312,7 +312,6 @@ ends_as ReadFault R reader es old new K T U h f r = absurd f
 ends_as WriteFault R reader es old new K T U h f r = absurd f
 ends_as TraceTooLong R reader es old new K T U h f r = (finishes T es reader (Err LongFault) h f, r)
 ends_as StatusMemory R reader es old new K T U h f r = absurd f
-ends_as StatusNotYet R reader es old new K T U h f r = absurd f
 ends_as AuditRefused R reader es old new K T U h f r = absurd f
 
 pub ends_trace : (status : Status) (R : Meaning) (left mid left' : Option (List ℕ)) (reader : Seen) (n made : ℕ) (failed : List ℕ) (lines : List (Option Waiting)) (old new : World) (taken buf filled : List ℕ) (count : ℕ)

@@ -8,7 +8,7 @@ use Rattle.resin_serve.specs.declared.give.Given.{Given}
 use Rattle.resin_serve.specs.declared.give.Given.TheVariants.{Whole, Fault}
 use Rattle.resin_serve.specs.declared.give.Given.TheVariants.{Memory as GivenMemory}
 use Rattle.resin_serve.specs.declared.status.Status.{Status}
-use Rattle.resin_serve.specs.declared.status.Status.TheVariants.{Usage, BadTrace, ReadFault, WriteFault, TraceTooLong, NotYet, AuditRefused}
+use Rattle.resin_serve.specs.declared.status.Status.TheVariants.{Usage, BadTrace, ReadFault, WriteFault, TraceTooLong, AuditRefused}
 use Rattle.resin_serve.specs.declared.status.Status.TheVariants.{Ok as StatusOk, Memory as StatusMemory}
 use Rattle.resin_serve.specs.Ran.{Grew}
 use Rattle.resin_serve.specs.Gives.{Gave}
@@ -44,7 +44,6 @@ Audits ReadFault text old new = Grew old new []
 Audits WriteFault text old new = (verdict : Verdict) × Tells Fault text old new verdict
 Audits TraceTooLong text old new = (limit < length text) × Grew old new []
 Audits StatusMemory text old new = Grew old new [] ⊎ ((verdict : Verdict) × Tells GivenMemory text old new verdict)
-Audits NotYet text old new = ⊥
 Audits AuditRefused text old new = TellsWhole AuditRefused text old new
 
 -- an audit ends by no status of a run alone
@@ -56,7 +55,6 @@ EndsAudit ReadFault = ⊤
 EndsAudit WriteFault = ⊤
 EndsAudit TraceTooLong = ⊤
 EndsAudit StatusMemory = ⊤
-EndsAudit NotYet = ⊥
 EndsAudit AuditRefused = ⊤
 
 -- a run ends by no status of an audit alone, nor by those of words
@@ -68,7 +66,6 @@ EndsRun ReadFault = ⊤
 EndsRun WriteFault = ⊤
 EndsRun TraceTooLong = ⊤
 EndsRun StatusMemory = ⊤
-EndsRun NotYet = ⊥
 EndsRun AuditRefused = ⊥
 
 -- a fact of an audit that gave nothing
@@ -80,7 +77,6 @@ OnSilent ReadFault P = P
 OnSilent WriteFault P = ⊤
 OnSilent TraceTooLong P = P
 OnSilent StatusMemory P = ⊤
-OnSilent NotYet P = ⊤
 OnSilent AuditRefused P = ⊤
 
 -- the audit came to its verdict, or stopped for want of memory
@@ -92,5 +88,4 @@ CompletesAudit ReadFault = ⊥
 CompletesAudit WriteFault = ⊥
 CompletesAudit TraceTooLong = ⊥
 CompletesAudit StatusMemory = ⊤
-CompletesAudit NotYet = ⊥
 CompletesAudit AuditRefused = ⊤

@@ -1,7 +1,7 @@
 -- The exit codes of the program (this project).
 use Rattle.std.specs.Prelude.{ℕ}
 use Rattle.resin_serve.specs.declared.status.Status.{Status}
-use Rattle.resin_serve.specs.declared.status.Status.TheVariants.{Usage, BadTrace, ReadFault, WriteFault, TraceTooLong, NotYet, AuditRefused}
+use Rattle.resin_serve.specs.declared.status.Status.TheVariants.{Usage, BadTrace, ReadFault, WriteFault, TraceTooLong, AuditRefused}
 use Rattle.resin_serve.specs.declared.status.Status.TheVariants.{Ok as StatusOk, Memory as StatusMemory}
 
 abbrev pub code_of : Status → ℕ
@@ -12,5 +12,4 @@ code_of ReadFault = 4
 code_of WriteFault = 5
 code_of TraceTooLong = 6
 code_of StatusMemory = 7
-code_of NotYet = 8
 code_of AuditRefused = 9

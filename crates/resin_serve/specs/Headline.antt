@@ -2,7 +2,7 @@
 use Rattle.std.specs.Prelude.{ℕ, ⊤}
 use Rattle.resin_site.specs.Under.base.Causes.{Rose}
 use Rattle.resin_serve.specs.declared.status.Status.{Status}
-use Rattle.resin_serve.specs.declared.status.Status.TheVariants.{Usage, BadTrace, ReadFault, WriteFault, TraceTooLong, NotYet, AuditRefused}
+use Rattle.resin_serve.specs.declared.status.Status.TheVariants.{Usage, BadTrace, ReadFault, WriteFault, TraceTooLong, AuditRefused}
 use Rattle.resin_serve.specs.declared.status.Status.TheVariants.{Ok as StatusOk, Memory as StatusMemory}
 use Rattle.resin_serve.specs.Gives.{RoseIn, Sinks}
 use Rattle.resin_serve.specs.Kept.{Keepers}
@@ -16,7 +16,6 @@ Completes ReadFault = ⊥
 Completes WriteFault = ⊥
 Completes TraceTooLong = ⊥
 Completes StatusMemory = ⊤
-Completes NotYet = ⊥
 Completes AuditRefused = ⊥
 
 -- no count rose

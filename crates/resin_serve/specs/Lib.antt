@@ -12,6 +12,7 @@ pub mod Codes
 pub mod Asked
 pub mod Logs
 pub mod Audits
+pub mod Samples
 pub mod Wholes
 pub mod Recorded
 pub mod Cutting

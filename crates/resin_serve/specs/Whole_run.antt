@@ -12,7 +12,7 @@ use Rattle.resin_serve.specs.declared.give.Given.{Given}
 use Rattle.resin_serve.specs.declared.give.Given.TheVariants.{Whole}
 use Rattle.resin_serve.specs.declared.give.Given.TheVariants.{Fault as GivenFault, Memory as GivenMemory}
 use Rattle.resin_serve.specs.declared.status.Status.{Status}
-use Rattle.resin_serve.specs.declared.status.Status.TheVariants.{Usage, BadTrace, ReadFault, WriteFault, TraceTooLong, NotYet, AuditRefused}
+use Rattle.resin_serve.specs.declared.status.Status.TheVariants.{Usage, BadTrace, ReadFault, WriteFault, TraceTooLong, AuditRefused}
 use Rattle.resin_serve.specs.declared.status.Status.TheVariants.{Ok as StatusOk, Memory as StatusMemory}
 use Rattle.resin_serve.specs.Meaning.{Meaning, Owed, order}
 use Rattle.resin_site.specs.Keeping.{Later}
@@ -44,7 +44,6 @@ Runs ReadFault R K trace taken old new = RunOf Whole (λ _. ⊤) R K taken old n
 Runs WriteFault R K trace taken old new = RunOf GivenFault (Near taken) R K trace old new
 Runs TraceTooLong R K trace taken old new = IsLong trace × RunOf Whole (λ _. ⊤) R K trace old new
 Runs StatusMemory R K trace taken old new = RunOf GivenMemory (λ _. ⊤) R K trace old new
-Runs NotYet R K trace taken old new = ⊥
 Runs AuditRefused R K trace taken old new = ⊥
 
 -- The run of a trace that a source held, which now tells what is left of it: bytes were taken from the front of the trace, and the run came so far.
@@ -63,7 +62,6 @@ given_of_status ReadFault = Whole
 given_of_status WriteFault = GivenFault
 given_of_status TraceTooLong = Whole
 given_of_status StatusMemory = GivenMemory
-given_of_status NotYet = Whole
 given_of_status AuditRefused = Whole
 
 -- a read fault comes only where the source's count rose, and else it stayed
@@ -75,7 +73,6 @@ ReadCause ReadFault before now = Rose before now
 ReadCause WriteFault before now = now ≡ before
 ReadCause TraceTooLong before now = now ≡ before
 ReadCause StatusMemory before now = now ≡ before
-ReadCause NotYet before now = now ≡ before
 ReadCause AuditRefused before now = now ≡ before
 
 -- the records of what was taken so far were read, and their answers were served
@@ -100,5 +97,15 @@ Finished s ReadFault = ⊥
 Finished s WriteFault = ⊥
 Finished s TraceTooLong = Finishes s (Err TooLong)
 Finished s StatusMemory = ⊥
-Finished s NotYet = ⊥
 Finished s AuditRefused = ⊥
+
+-- after a run to the end of a good trace, the next answer's number tells how many answers the trace has
+abbrev pub Numbers : Status → List ℕ → ℕ → Type 0
+Numbers StatusOk trace number = (records : List (TraceEvent × ℕ)) (rest : List ℕ) → Records trace records rest → number ≡ 1 + length (order [] records)
+Numbers Usage trace number = ⊤
+Numbers (BadTrace offset) trace number = ⊤
+Numbers ReadFault trace number = ⊤
+Numbers WriteFault trace number = ⊤
+Numbers TraceTooLong trace number = ⊤
+Numbers StatusMemory trace number = ⊤
+Numbers AuditRefused trace number = ⊤

@@ -7,7 +7,7 @@ use Rattle.std.specs.Cmp.Lexicographic.{pointwise}
 use Rattle.resin_serve.specs.declared.logging.Logging.{Logging}
 use Rattle.resin_serve.specs.declared.logging.Logging.TheVariants.{Denials, Journals}
 use Rattle.resin_serve.specs.declared.words.Task.{Task}
-use Rattle.resin_serve.specs.declared.words.Task.TheVariants.{Run, Audit}
+use Rattle.resin_serve.specs.declared.words.Task.TheVariants.{Run, Audit, Sample}
 
 abbrev pub is_word : List ℕ → List ℕ → Bool
 is_word word wanted = pointwise nat_eq word wanted
@@ -19,13 +19,17 @@ usual_fuel = 1000000
 abbrev pub most_fuel : ℕ
 most_fuel = 100000000
 
+-- the largest sample
+abbrev pub most_sample : ℕ
+most_sample = 10000
+
 -- one to nine digits without a leading zero
 abbrev pub is_decimal : List ℕ → Bool
 is_decimal text = nat_lt 0 (length text) && nat_le (length text) 9 && list_all is_ascii_digit text && not (slice_index text 0 == 48)
 
--- the number from 1 to 100,000,000 that a word is
-abbrev pub fuel_number : List ℕ → Option ℕ
-fuel_number text = if is_decimal text && nat_le (digits_value 10 text) most_fuel then Some (digits_value 10 text) else None
+-- the number from 1 to the largest one that a word is
+abbrev pub number_up_to : ℕ → List ℕ → Option ℕ
+number_up_to most text = if is_decimal text && nat_le (digits_value 10 text) most then Some (digits_value 10 text) else None
 
 -- what the log of a run tells that begins with this word
 abbrev pub logging_of : List ℕ → Option Logging
@@ -37,10 +41,16 @@ run_with None fuel = None
 run_with (Some logging) None = None
 run_with (Some logging) (Some fuel) = Some (Run logging fuel)
 
--- What the words ask for: a run by `serve` and `record`, each alone or with `--fuel N`, an audit by `audit`; None for all other words.
+-- the sample of this size, where it is said
+abbrev pub sample_of : Option ℕ → Option Task
+sample_of None = None
+sample_of (Some number) = Some (Sample number)
+
+-- What the words ask for: a run by `serve` and `record`, each alone or with `--fuel N`, an audit by `audit`, the sample by `sample N`; None for all
+-- other words.
 abbrev pub task_of : List (List ℕ) → Option Task
 task_of [] = None
 task_of (w ∷ []) = if is_word w (codes "audit") then Some Audit else run_with (logging_of w) (Some usual_fuel)
-task_of (w ∷ o ∷ []) = None
-task_of (w ∷ o ∷ n ∷ []) = if is_word o (codes "--fuel") then run_with (logging_of w) (fuel_number n) else None
+task_of (w ∷ n ∷ []) = if is_word w (codes "sample") then sample_of (number_up_to most_sample n) else None
+task_of (w ∷ o ∷ n ∷ []) = if is_word o (codes "--fuel") then run_with (logging_of w) (number_up_to most_fuel n) else None
 task_of (w ∷ o ∷ n ∷ m ∷ ws) = None

@@ -1,5 +1,5 @@
 //! The audit of what a source holds.
-ghost use Rattle.std.specs.Prelude.{◌≡◌, ◌≢◌, ◌≤◌, ◌++◌, ℕ, List, Some, length, decimal, OnOk, IfOk};
+ghost use Rattle.std.specs.Prelude.{◌≡◌, ◌≢◌, ◌≤◌, ℕ, List, Some, length, IfOk};
 ghost use Rattle.resin_serve.specs.Gives.{Caused, counts};
 ghost use Rattle.resin_serve.specs.Whole_run.{ReadCause, given_of_status};
 ghost use Rattle.resin_serve.specs.Audits.{verdict_line, verdict_status, Audits, EndsAudit, OnSilent};
@@ -8,8 +8,8 @@ ghost use Rattle.resin_serve.specs.Wholes.{ReadsWhole, HasReadCause};
 ghost use Rattle.resin_serve.specs.declared.status.Status.TheVariants.{ReadFault};
 
 use crate::give::{Given, give_all};
+use crate::output::push_count;
 use crate::status::Status;
-use itoa::Buffer;
 use resin_audit::{Verdict, audit};
 use resin_site::under::base::{Bytes, Sink, Source};
 use std::alloc::{AllocError, Global};
@@ -128,13 +128,4 @@ fn verdict_line(alloc: Global, verdict: Verdict) -> Result<Bytes, AllocError>
     }
     text.push_slice(b"\n")?;
     Ok(text)
-}
-
-// Puts a number last, behind what it counts.
-fn push_count(text: &mut Bytes, name: &[u8], number: u64) -> Result<(), AllocError>
-    ensures { OnOk result (text.new ≡ text.old ++ name.now ++ decimal number) }
-{
-    let mut buffer = Buffer::new();
-    text.push_slice(name)?;
-    text.push_slice(buffer.format(number).as_bytes())
 }

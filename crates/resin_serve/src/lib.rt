@@ -1,4 +1,4 @@
-//! Serves a recorded trace over a site, and audits the journal file of a run: the top call of the runtime.
+//! Serves a recorded trace over a site, audits the journal file of a run, and runs the sample: the top call of the runtime.
 #![tactic(auto)]
 
 mod auditing;
@@ -7,6 +7,8 @@ mod laws;
 mod logging;
 mod output;
 mod run;
+mod sample;
+mod serving;
 mod status;
 mod top;
 mod waiting;

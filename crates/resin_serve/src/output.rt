@@ -1,5 +1,5 @@
-//! The records of the output.
-ghost use Rattle.std.specs.Prelude.{◌≡◌, IfOk};
+//! The records and the lines of the output.
+ghost use Rattle.std.specs.Prelude.{◌≡◌, ◌++◌, decimal, IfOk, OnOk};
 ghost use Rattle.resin_serve.specs.Records.{record_text};
 
 use itoa::Buffer;
@@ -19,4 +19,13 @@ pub(crate) fn output_record(alloc: Global, conn: u16, response: &[u8]) -> Result
     text.push_slice(response)?;
     text.push_slice(b"\n")?;
     Ok(text)
+}
+
+/// Puts a number last, behind what it counts.
+pub(crate) fn push_count(text: &mut Bytes, name: &[u8], number: u64) -> Result<(), AllocError>
+    ensures { OnOk result (text.new ≡ text.old ++ name.now ++ decimal number) }
+{
+    let mut buffer = Buffer::new();
+    text.push_slice(name)?;
+    text.push_slice(buffer.format(number).as_bytes())
 }

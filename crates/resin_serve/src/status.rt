@@ -16,7 +16,8 @@ pub struct Ended {
 /// How a run ends.
 #[derive(Clone, Copy, Debug, PartialEq, Eq)]
 pub enum Status {
-    /// The trace was read to its end, and every record was served; or the audited text is a journal file whose journals obey the access law.
+    /// The trace was read to its end, and every record was served; or the audited text is a journal file whose journals obey the access law; or the
+    /// line of the sample was given.
     Ok,
     /// The words are none of the forms.
     Usage,
@@ -30,8 +31,6 @@ pub enum Status {
     TraceTooLong,
     /// There was no memory.
     Memory,
-    /// The words ask for what isn't built yet. No run and no audit ends so.
-    NotYet,
     /// The audited text is no journal file, or a journal of it breaks the access law.
     AuditRefused,
 }
@@ -49,7 +48,6 @@ impl Status {
             Status::WriteFault => 5,
             Status::TraceTooLong => 6,
             Status::Memory => 7,
-            Status::NotYet => 8,
             Status::AuditRefused => 9,
         }
     }

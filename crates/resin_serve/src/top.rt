@@ -1,40 +1,39 @@
 //! The top call.
-ghost use Rattle.std.specs.Prelude.{◌≡◌, ◌≢◌, ◌≤◌, ◌+◌, ◌<◌, [], ℕ, List, Some, None, ◌↔◌, map, string_bytes, length, OnOk};
+ghost use Rattle.std.specs.Prelude.{◌≡◌, ◌≤◌, ◌+◌, ◌<◌, [], ℕ, List, Some, None, ◌↔◌, map, string_bytes, length};
 ghost use Rattle.resin_site.specs.Under.base.Causes.{last_count};
-ghost use Rattle.resin_site.specs.Under.base.Numbering.{RiseWithin, AreNumbered};
-ghost use Rattle.resin_trace.specs.Lines.{at};
-ghost use Rattle.resin_trace.specs.Seen.{fed};
+ghost use Rattle.resin_site.specs.Under.base.Numbering.{RiseWithin};
 ghost use Rattle.resin_trace.specs.Verdicts.{IsGood};
 ghost use Rattle.resin_serve.specs.Ran.{world};
-ghost use Rattle.resin_serve.specs.Gives.{CausedIn, counts, sinks};
+ghost use Rattle.resin_serve.specs.Gives.{CausedIn, RoseIn, counts, sinks};
 ghost use Rattle.resin_serve.specs.Kept.{Kept, keepers};
-ghost use Rattle.resin_site.specs.Keeping.{Later, answers, store_of};
-ghost use Rattle.resin_serve.specs.Asked.{meaning, served};
+ghost use Rattle.resin_site.specs.Keeping.{answers, store_of};
+ghost use Rattle.resin_serve.specs.Asked.{meaning};
 ghost use Rattle.resin_trace.specs.Records.{limit};
-ghost use Rattle.resin_serve.specs.Whole_run.{RunsFrom, ReadCause, Finished, given_of_status};
+ghost use Rattle.resin_serve.specs.Whole_run.{RunsFrom, ReadCause, given_of_status};
 ghost use Rattle.resin_serve.specs.Words.{task_of};
 ghost use Rattle.resin_serve.specs.Audits.{Audits, EndsAudit, EndsRun, OnSilent, CompletesAudit};
+ghost use Rattle.resin_serve.specs.Samples.{Samples};
 ghost use Rattle.resin_serve.specs.Headline.{Completes, Calm};
 ghost use Rattle.resin_serve.specs.declared.status.Status.TheVariants.{Usage, AuditRefused};
 
 use crate::auditing::audit_source;
 use crate::logging::Logging;
-use crate::run::{Ready, Run, Service, serve_ready};
+use crate::sample::show_sample;
+use crate::serving::{new_run, serve_trace};
 use crate::status::{Ended, Status};
-use crate::waiting::WaitingStreams;
 use crate::words::{Task, task_of};
-use resin_site::Site;
-use resin_site::under::base::{Calls, FailList, Files, Sink, Source, Tables};
-use resin_trace::{TraceFault, TraceReader};
-use std::alloc::{AllocError, Global};
+use resin_site::under::base::{FailList, Files, Sink, Source, Tables};
+use std::alloc::Global;
 
-/// Serves a recorded trace over the keepers of files and of tables, or audits the journal file of a run.
+/// Serves a recorded trace over the keepers of files and of tables, audits the journal file of a run, or runs the sample.
 ///
 /// With the words `serve` and `serve --fuel N` the records of the trace are served as soon as they stand whole: each answer gives its log lines, its
 /// mail records and its output record, in that order, by a loop over `give` that is lent all that is left for that sink. With the words `record` and
 /// `record --fuel N` it gives its part of the journal file in place of its log lines. With the word `audit` the source is read whole, which makes no
-/// keeper call and leaves log and mail alone; the output is given the line of the verdict on it. With all other words the answer is Usage, and
-/// nothing is read or written. The trace is read by a buffer of 65,536 bytes.
+/// keeper call and leaves log and mail alone; the output is given the line of the verdict on it. With the words `sample N` the sample's trace of N
+/// pairs of requests is served over the sample's site in memory, and the output alone is given a line that tells how many answers and how many lines
+/// of denials that run has (FORMATS.md, "The sample"). With all other words the answer is Usage, and nothing is read or written. The trace is read by
+/// a buffer of 65,536 bytes.
 pub fn serve<S: Source, O: Sink, L: Sink, M: Sink, F: Files, T: Tables>(
     alloc: Global,
     words: &[String],
@@ -64,6 +63,12 @@ pub fn serve<S: Source, O: Sink, L: Sink, M: Sink, F: Files, T: Tables>(
         → Audits result.status all (O.written out.old) (O.written out.new) }
     ensures audits { task_of (map string_bytes words.now) ≡ Some Task.Audit
         → EndsAudit result.status × OnSilent result.status (out.new ≡ out.old) × (log.new ≡ log.old) × (mail.new ≡ mail.old) × (files.new ≡ files.old) × (tables.new ≡ tables.old)
+        × (result.made ≡ 0) × (result.failed ≡ []) }
+
+    // The sample's run is told by its line, and all else stays as it was.
+    ensures sample { (number : ℕ) → task_of (map string_bytes words.now) ≡ Some (Task.Sample number)
+        → Samples result.status number (O.written out.old) (O.written out.new)
+        × (trace.new ≡ trace.old) × (log.new ≡ log.old) × (mail.new ≡ mail.old) × (files.new ≡ files.old) × (tables.new ≡ tables.old)
         × (result.made ≡ 0) × (result.failed ≡ []) }
     ensures refused { result.status ≡ AuditRefused → task_of (map string_bytes words.now) ≡ Some Task.Audit }
 
@@ -97,10 +102,16 @@ pub fn serve<S: Source, O: Sink, L: Sink, M: Sink, F: Files, T: Tables>(
         (keepers 0 [] (F.answers files.old) (F.faults files.old) (T.answers tables.old) (T.faults tables.old))
         (keepers result.made result.failed (F.answers files.new) (F.faults files.new) (T.answers tables.new) (T.faults tables.new))
         → CompletesAudit result.status }
+
+    // The sample's line is given whole to a calm output, unless memory is wanting.
+    ensures shows { (number : ℕ) → task_of (map string_bytes words.now) ≡ Some (Task.Sample number)
+        → (RoseIn (counts (O.faults out.old) (O.stalls out.old)) (counts (O.faults out.new) (O.stalls out.new)) → ⊥)
+        → Completes result.status }
 {
     match task_of(words) {
         None => ended(alloc, Status::Usage),
         Some(Task::Audit) => ended(alloc, audit_source(alloc, trace, out)),
+        Some(Task::Sample { number }) => ended(alloc, show_sample(alloc, number, out)),
         Some(Task::Run { logging, fuel }) => serve_site(
             alloc, logging, fuel, trace, out, log, mail, files, tables,
         ),
@@ -150,99 +161,13 @@ fn serve_site<S: Source, O: Sink, L: Sink, M: Sink, F: Files, T: Tables>(
         (keepers result.made result.failed (F.answers files.new) (F.faults files.new) (T.answers tables.new) (T.faults tables.new))
         → Completes result.status × (result.failed ≡ []) }
 {
-    let calls = Calls {
-        made: 0,
-        failed: FailList::new(alloc),
-    };
-    let Ok(site) = Site::new(alloc, fuel) else {
-        return Ended {
-            status: Status::Memory,
-            made: calls.made,
-            failed: calls.failed,
-        };
-    };
-    let mut run = Run {
-        alloc,
-        service: Service { site, logging },
-        calls,
-        number: 1,
-        connections: WaitingStreams::new(alloc),
+    let Ok(mut run) = new_run(alloc, logging, fuel) else {
+        return ended(alloc, Status::Memory);
     };
     let status = serve_trace(&mut run, trace, log, mail, out, files, tables);
     Ended {
         status,
         made: run.calls.made,
         failed: run.calls.failed,
-    }
-}
-
-// Serves a whole trace.
-fn serve_trace<S: Source, F: Files, T: Tables, L: Sink, M: Sink, O: Sink>(
-    run: &mut Run,
-    trace: &mut S,
-    log: &mut L,
-    mail: &mut M,
-    out: &mut O,
-    files: &mut F,
-    tables: &mut T,
-) -> Status
-    requires number { run.old.number ≡ 1 }
-    requires numbered { AreNumbered run.old.calls }
-    requires new { (c : ℕ) → at run.old.connections c ≡ None }
-    ensures serves { EndsRun result }
-    ensures kept { Kept (keepers run.old.calls.made run.old.calls.failed (F.answers files.old) (F.faults files.old) (T.answers tables.old) (T.faults tables.old))
-        (keepers run.new.calls.made run.new.calls.failed (F.answers files.new) (F.faults files.new) (T.answers tables.new) (T.faults tables.new)) }
-    ensures cause { CausedIn (given_of_status result)
-        (sinks (counts (L.faults log.old) (L.stalls log.old)) (counts (M.faults mail.old) (M.stalls mail.old)) (counts (O.faults out.old) (O.stalls out.old)))
-        (sinks (counts (L.faults log.new) (L.stalls log.new)) (counts (M.faults mail.new) (M.stalls mail.new)) (counts (O.faults out.new) (O.stalls out.new))) }
-    ensures read { ReadCause result (S.faults trace.old) (S.faults trace.new) }
-    ensures ran { (K all : List ℕ) → Later run.new.calls.made run.new.calls.failed K → S.left trace.old ≡ Some all
-        → RunsFrom result (served run.old.service) K all (S.left trace.new)
-        (world (L.written log.old) (M.written mail.old) (O.written out.old) (store_of (F.stored files.old) (T.stored tables.old)) (answers (F.answers files.old) (T.answers tables.old)) run.old.calls.made)
-        (world (L.written log.new) (M.written mail.new) (O.written out.new) (store_of (F.stored files.new) (T.stored tables.new)) (answers (F.answers files.new) (T.answers tables.new)) run.new.calls.made) }
-{
-    let mut reader = TraceReader::new(run.alloc);
-    let mut buffer = [0u8; 65536];
-    'reads: loop {
-        match serve_ready(run, log, mail, out, files, tables, &mut reader) {
-            Ready::Wait => {}
-            Ready::Bad { offset } => return Status::BadTrace { offset },
-            Ready::TooLong => return Status::TraceTooLong,
-            Ready::Fault => return Status::WriteFault,
-            Ready::Memory => return Status::Memory,
-        }
-        let count = match trace.take(&mut buffer) {
-            Ok(count) => count,
-            Err(_) => return Status::ReadFault,
-        };
-        if count == 0 {
-            return finished(&reader);
-        }
-        let Ok(()) = take_in(&mut reader, &buffer[..count]) else {
-            return Status::Memory;
-        };
-    }
-}
-
-// Feeds the reader. A trace that is too long shows once its records were handed out.
-fn take_in(reader: &mut TraceReader, piece: &[u8]) -> Result<(), AllocError>
-    ensures { OnOk result (reader.new ≡ fed reader.old piece.now) }
-{
-    match reader.feed(piece) {
-        Ok(()) => Ok(()),
-        Err(TraceFault::TooLong) => Ok(()),
-        Err(_) => Err(AllocError),
-    }
-}
-
-// How a run ends where the trace does.
-fn finished(reader: &TraceReader) -> Status
-    ensures { Finished reader.now result }
-{
-    match reader.finish() {
-        Ok(()) => Status::Ok,
-        Err(TraceFault::Bad { offset }) => Status::BadTrace { offset },
-        Err(TraceFault::TooLong) => Status::TraceTooLong,
-        Err(TraceFault::Memory) => Status::Memory,
     }
 }

@@ -3,7 +3,7 @@ use Rattle.resin_serve.specs.Asked.{served}
 use Rattle.resin_serve.proofs.Serve_runs.{begin_run, join_at, ends_bad, ends_long, ends_fault, ends_memory, ends_read, ends_trace, ends_full, fed_run, falls_fed}
 use Rattle.resin_serve.proofs.Ends.{ends_run}
 use Rattle.resin_serve.proofs.Keeping.{kept_none, kept_then, passes}
-use Rattle.resin_serve.proofs.top.serve_trace.Goals as goal
+use Rattle.resin_serve.proofs.serving.serve_trace.Goals as goal
 
 pub reads-init : goal.reads-init
 reads-init g c = record {

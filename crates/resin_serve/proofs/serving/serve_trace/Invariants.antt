@@ -9,7 +9,7 @@ use Rattle.resin_serve.specs.Kept.{Kept, keepers}
 use Rattle.resin_serve.specs.Asked.{served}
 use Rattle.resin_serve.specs.Whole_run.{RunsSo}
 use Rattle.resin_serve.proofs.Serve_runs.{measure}
-use Rattle.resin_serve.proofs.top.serve_trace.Given as goal
+use Rattle.resin_serve.proofs.serving.serve_trace.Given as goal
 
 abbrev pub invariant-reads : goal.invariant-reads
 invariant-reads g l = record {

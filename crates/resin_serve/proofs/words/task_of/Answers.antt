@@ -1,12 +1,12 @@
 use Rattle.std.proofs.Common.{sym, ap, ◌∙◌}
 use Rattle.std.specs.String.{string_bytes}
-use Rattle.resin_serve.specs.Words.{fuel_number, logging_of, run_with}
+use Rattle.resin_serve.specs.Words.{most_fuel, number_up_to, logging_of, run_with}
 use Rattle.resin_serve.proofs.Wording.{task_three}
 use Rattle.resin_serve.proofs.words.task_of.Goals as goal
 
 pub returns : goal.returns
 returns c =
-    c.run_with-2.ensures ∙ ap (λ l. run_with l c.fuel_number.result) c.logging_of-2.ensures
-    ∙ ap (run_with (logging_of (string_bytes c.index-words-0-2.result))) (c.fuel_number.ensures ∙ ap fuel_number c.as_bytes.ensures.value)
+    c.run_with-2.ensures ∙ ap (λ l. run_with l c.number_up_to.result) c.logging_of-2.ensures
+    ∙ ap (run_with (logging_of (string_bytes c.index-words-0-2.result))) (c.number_up_to.ensures ∙ ap (number_up_to most_fuel) c.as_bytes.ensures.value)
     ∙ sym (task_three string_bytes c.args.words.now c.index-words-0-2.result c.index-words-1.result c.index-words-2.result c.if-words-ne3.false
     c.index-words-0-2.is c.index-words-1.is c.index-words-2.is (sym c.is_word-2.ensures ∙ c.if-not-is_word.false))
