@@ -52,10 +52,6 @@ no_fails k k' h e f t =
 pub runs_nothing : (R : Meaning) (K T : List ℕ) (now : Option (List ℕ)) (w : World) → now ≡ Some T → RunsFrom StatusMemory R K T now w w
 runs_nothing R K T now w told = record { taken = []; left = T; told = told; front = refl; runs = λ records rest r. ran_stop _ R K 1 _ w }
 
-pub runs_with : (status : Status) (logging : Logging) (a b : ℕ) (K T : List ℕ) (now : Option (List ℕ)) (old new : World) → a ≡ b
-    → RunsFrom status (meaning logging a) K T now old new → RunsFrom status (meaning logging b) K T now old new
-runs_with status logging a b K T now old new e r = subst (λ n. RunsFrom status (meaning logging n) K T now old new) e r
-
 pub some_same : (a b : ℕ) → Some a ≡ Some b → a ≡ b
 some_same a b e = cc
 

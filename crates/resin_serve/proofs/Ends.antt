@@ -7,12 +7,20 @@ use Rattle.resin_serve.specs.declared.give.Given.TheVariants.{Whole, Fault, Memo
 use Rattle.resin_serve.specs.declared.status.Status.{Status}
 use Rattle.resin_serve.specs.declared.status.Status.TheVariants.{Usage, BadTrace, ReadFault, WriteFault, TraceTooLong, AuditRefused}
 use Rattle.resin_serve.specs.declared.status.Status.TheVariants.{Ok as StatusOk, Memory as StatusMemory}
-use Rattle.resin_serve.specs.Gives.{Counts, Sinks, sinks, Caused, CausedIn}
+use Rattle.resin_serve.specs.Gives.{Counts, Sinks, sinks, RoseIn, Caused, CausedIn}
+use Rattle.resin_site.specs.Under.base.declared.calls.Calls.{Calls}
+use Rattle.resin_site.specs.Under.base.Numbering.{AreNumbered, RiseWithin}
+use Rattle.resin_site.specs.Keeping.{Answers, Store}
+use Rattle.resin_serve.specs.declared.logging.Logging.{Logging}
+use Rattle.resin_serve.specs.Asked.{meaning}
+use Rattle.resin_serve.specs.Meaning.{Meaning}
+use Rattle.resin_serve.specs.Ran.{World, world}
 use Rattle.resin_serve.specs.Kept.{Keepers, keepers, Kept}
-use Rattle.resin_serve.specs.Whole_run.{Finished, ReadCause, given_of_status}
-use Rattle.resin_serve.specs.Headline.{Calm}
+use Rattle.resin_serve.specs.Whole_run.{Finished, RunsFrom, ReadCause, given_of_status}
+use Rattle.resin_serve.specs.Headline.{Calm, Completes}
+use Rattle.resin_serve.specs.Samples.{Samples}
 use Rattle.resin_serve.specs.Audits.{Audits, EndsRun, CompletesAudit}
-use Rattle.resin_serve.proofs.Completing.{kept_new}
+use Rattle.resin_serve.proofs.Completing.{kept_new, runs_nothing}
 
 -- a run that ends where the trace does ends by a status of runs
 pub ends_run : (s : Seen) (status : Status) → Finished s status → EndsRun status
@@ -55,3 +63,40 @@ completes_audit WriteFault text old new s s' r r' k k' a l (inr (inr c)) x calm 
 completes_audit TraceTooLong text old new s s' r r' k k' a l c x calm = let m : limit < length text = a.0 in absurd (omega arith)
 completes_audit StatusMemory text old new s s' r r' k k' a l c x calm = tt
 completes_audit AuditRefused text old new s s' r r' k k' a l c x calm = tt
+
+-- ---- a run that didn't begin, and one that does
+
+pub runs_ended : (status : Status) (R : Meaning) (K T : List ℕ) (now log mail out : Option (List ℕ)) (store : Option Store) (told : Answers) (made : ℕ) → status ≡ StatusMemory → made ≡ 0 → now ≡ Some T
+    → RunsFrom status R K T now (world log mail out store told 0) (world log mail out store told made)
+runs_ended status R K T now log mail out store told made e f p =
+    subst (λ s. RunsFrom s R K T now (world log mail out store told 0) (world log mail out store told made)) (sym e)
+    (subst (λ m. RunsFrom StatusMemory R K T now (world log mail out store told 0) (world log mail out store told m)) (sym f)
+    (runs_nothing R K T now (world log mail out store told 0) p))
+
+pub runs_begun : (status : Status) (logging logging' : Logging) (fuel fuel' : ℕ) (K T : List ℕ) (now log mail out : Option (List ℕ)) (store : Option Store) (told : Answers) (made : ℕ) (new : World)
+    → logging ≡ logging' → fuel ≡ fuel' → made ≡ 0 → RunsFrom status (meaning logging fuel) K T now (world log mail out store told made) new
+    → RunsFrom status (meaning logging' fuel') K T now (world log mail out store told 0) new
+runs_begun status logging logging' fuel fuel' K T now log mail out store told made new l f m r =
+    subst (λ k. RunsFrom status (meaning k fuel') K T now (world log mail out store told 0) new) l
+    (subst (λ k. RunsFrom status (meaning logging k) K T now (world log mail out store told 0) new) f
+    (subst (λ k. RunsFrom status (meaning logging fuel) K T now (world log mail out store told k) new) m r))
+
+pub kept_begun : (made : ℕ) (failed : List ℕ) (files tables : Option (List Bool)) (file_faults table_faults : ℕ) (new : Keepers) → made ≡ 0 → failed ≡ []
+    → Kept (keepers made failed files file_faults tables table_faults) new → Kept (keepers 0 [] files file_faults tables table_faults) new
+kept_begun made failed files tables file_faults table_faults new e f k =
+    subst (λ l. Kept (keepers 0 l files file_faults tables table_faults) new) f
+    (subst (λ m. Kept (keepers m failed files file_faults tables table_faults) new) e k)
+
+pub none_numbered : (calls : Calls) → calls.failed ≡ [] → AreNumbered calls
+none_numbered calls e = subst (λ l. RiseWithin 0 calls.made l) (sym e) tt
+
+-- a sample over a calm output gives its line
+pub completes_sample : (status : Status) (number : ℕ) (old new : Option (List ℕ)) (s s' : Counts) → Samples status number old new → Caused (given_of_status status) s s' → (RoseIn s s' → ⊥) → Completes status
+completes_sample StatusOk number old new s s' a c calm = tt
+completes_sample Usage number old new s s' a c calm = a
+completes_sample (BadTrace offset) number old new s s' a c calm = a
+completes_sample ReadFault number old new s s' a c calm = a
+completes_sample WriteFault number old new s s' a c calm = calm c
+completes_sample TraceTooLong number old new s s' a c calm = a
+completes_sample StatusMemory number old new s s' a c calm = tt
+completes_sample AuditRefused number old new s s' a c calm = a

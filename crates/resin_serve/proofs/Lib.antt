@@ -19,3 +19,4 @@ pub mod Marking
 pub mod Telling
 pub mod Recording
 pub mod Ends
+pub mod Sampling

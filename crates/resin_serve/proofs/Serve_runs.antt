@@ -29,7 +29,7 @@ use Rattle.resin_serve.specs.Meaning.{Meaning, Owed, fresh, order, life}
 use Rattle.resin_serve.specs.Ran.{World, Ran}
 use Rattle.resin_serve.specs.Lines.{Hold}
 use Rattle.resin_serve.specs.Top.{OnWhole, WentOn, Went, Beyond, Past, events, given_of, Stands}
-use Rattle.resin_serve.specs.Whole_run.{Took, Near, RunOf, Runs, RunsFrom, RunsSo, Finished}
+use Rattle.resin_serve.specs.Whole_run.{Took, Near, RunOf, Runs, RunsFrom, RunsSo, Finished, Numbers}
 use Rattle.resin_serve.proofs.Runs.{ran_none, ran_then, ran_near, ran_stop, ran_any, ran_more}
 use Rattle.resin_serve.proofs.Line_runs.{on_whole}
 use Rattle.resin_serve.proofs.Streams.{still_nothing}
@@ -329,6 +329,26 @@ ends_trace status R left mid left' reader n made failed lines old new taken buf 
       runs = ends_as status R reader j.es old new K T all (subst (λ l. HasRead l j.es reader) e j.read) f
           (subst (λ l. RunOf Whole (λ _. Unit {0}) R K l old new) e (whole_of (Near taken) R K taken j.es reader.rest old new (records_of taken j.es reader j.read s.0) (j.ran K k)));
     }
+
+as_numbers : (status : Status) (T : List ℕ) (n : ℕ) → ((fs : List (TraceEvent × ℕ)) (rest : List ℕ) → Records T fs rest → n ≡ 1 + length (order [] fs)) → Numbers status T n
+as_numbers StatusOk T n f = f
+as_numbers Usage T n f = tt
+as_numbers (BadTrace offset) T n f = tt
+as_numbers ReadFault T n f = tt
+as_numbers WriteFault T n f = tt
+as_numbers TraceTooLong T n f = tt
+as_numbers StatusMemory T n f = tt
+as_numbers AuditRefused T n f = tt
+
+-- the next answer's number, where nothing was left
+pub ends_numbers : (status : Status) (R : Meaning) (left mid left' : Option (List ℕ)) (reader : Seen) (n made : ℕ) (failed : List ℕ) (lines : List (Option Waiting)) (old new : World) (taken buf filled : List ℕ) (count : ℕ)
+    → Joined Whole R left mid reader n made failed lines old new taken × Stands Wait reader → Told mid left' (Takes buf filled (Ok count)) → count ≡ 0
+    → (T : List ℕ) → left ≡ Some T → Numbers status T n
+ends_numbers status R left mid left' reader n made failed lines old new taken buf filled count (j, s) t z T p =
+    let u = told_as left left' (taken ++ take count filled) T (took_then left mid left' taken buf filled count j.told t) p in
+    let e : taken ≡ T = sym (told_end left mid left' taken buf filled T u.0 count j.told t z p u.1) in
+    let r : Records T j.es reader.rest = subst (λ l. Records l j.es reader.rest) e (records_of taken j.es reader j.read s.0) in
+    as_numbers status T n (λ fs rest f. j.whole.1 ∙ ap (λ xs. 1 + length (order [] xs)) (once 0 (take limit T) j.es fs reader.rest rest r.splits f.splits r.longest f.longest).0)
 
 -- the piece found no room
 pub ends_full : (R : Meaning) (left mid left' : Option (List ℕ)) (reader : Seen) (n made : ℕ) (failed : List ℕ) (lines : List (Option Waiting)) (old new : World) (taken buf filled : List ℕ) (count : ℕ)

@@ -22,8 +22,12 @@ use std::alloc::{AllocError, Global};
 
 /// A run that begins: over a site of its own, with no answer given and nothing known of any connection.
 pub(crate) fn new_run(alloc: Global, logging: Logging, fuel: u32) -> Result<Run, AllocError>
-    ensures { IfOk result (λ run. (run.service.site ≡ fuel) × (run.service.logging ≡ logging) × (run.number ≡ 1)
-        × (run.calls.made ≡ 0) × (run.calls.failed ≡ []) × ((c : ℕ) → at run.connections c ≡ None)) }
+    ensures fuel { IfOk result (λ run. run.service.site ≡ fuel) }
+    ensures logging { IfOk result (λ run. run.service.logging ≡ logging) }
+    ensures number { IfOk result (λ run. run.number ≡ 1) }
+    ensures made { IfOk result (λ run. run.calls.made ≡ 0) }
+    ensures failed { IfOk result (λ run. run.calls.failed ≡ []) }
+    ensures new { IfOk result (λ run. (c : ℕ) → at run.connections c ≡ None) }
 {
     Ok(Run {
         alloc,

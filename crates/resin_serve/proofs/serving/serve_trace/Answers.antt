@@ -1,6 +1,6 @@
 use Rattle.std.proofs.Common.{refl, ap, arith, ◌∙◌, length-take}
 use Rattle.resin_serve.specs.Asked.{served}
-use Rattle.resin_serve.proofs.Serve_runs.{begin_run, join_at, ends_bad, ends_long, ends_fault, ends_memory, ends_read, ends_trace, ends_full, fed_run, falls_fed}
+use Rattle.resin_serve.proofs.Serve_runs.{begin_run, join_at, ends_bad, ends_long, ends_fault, ends_memory, ends_read, ends_trace, ends_numbers, ends_full, fed_run, falls_fed}
 use Rattle.resin_serve.proofs.Ends.{ends_run}
 use Rattle.resin_serve.proofs.Keeping.{kept_none, kept_then, passes}
 use Rattle.resin_serve.proofs.serving.serve_trace.Goals as goal
@@ -54,6 +54,9 @@ returns-then-count-eq0-clause-kept g c = kept_then _ _ _ c.reads.invariant.kept 
 
 pub returns-then-count-eq0-clause-ran : goal.returns-then-count-eq0-clause-ran
 returns-then-count-eq0-clause-ran g c = ends_trace _ _ _ _ _ _ _ _ _ _ _ _ _ _ _ _ (join_at _ _ _ _ _ _ _ _ _ _ _ _ _ _ _ _ _ _ c.reads.invariant.so_far (passes _ _ c.in-Wait.ensures.kept) (ap served c.reads.invariant.service) c.in-Wait.ensures.went) c.in-Ok.ensures.moved c.if-count-eq0.true c.finished.ensures
+
+pub returns-then-count-eq0-clause-numbers : goal.returns-then-count-eq0-clause-numbers
+returns-then-count-eq0-clause-numbers g c = λ all p. ends_numbers _ _ _ _ _ _ _ _ _ _ _ _ _ _ _ _ (join_at _ _ _ _ _ _ _ _ _ _ _ _ _ _ _ _ _ _ c.reads.invariant.so_far (passes _ _ c.in-Wait.ensures.kept) (ap served c.reads.invariant.service) c.in-Wait.ensures.went) c.in-Ok.ensures.moved c.if-count-eq0.true all p
 
 pub returns-in_default-clause-kept : goal.returns-in_default-clause-kept
 returns-in_default-clause-kept g c = kept_then _ _ _ c.reads.invariant.kept c.in-Wait.ensures.kept

@@ -1,7 +1,9 @@
 use Rattle.std.proofs.Common.{sym, subst}
 use Rattle.resin_serve.specs.Whole_run.{given_of_status}
 use Rattle.resin_serve.specs.Audits.{CompletesAudit}
-use Rattle.resin_serve.proofs.Ends.{kept_ended, no_task, caused_out, completes_audit}
+use Rattle.resin_serve.specs.Headline.{Completes}
+use Rattle.resin_serve.proofs.Ends.{kept_ended, no_task, caused_out, completes_audit, completes_sample}
+use Rattle.resin_serve.proofs.Wording.{sample_size}
 use Rattle.resin_serve.proofs.top.serve.Goals as goal
 
 pub returns-in-None-clause-run : goal.returns-in-None-clause-run
@@ -21,3 +23,14 @@ returns-in-Some-Audit-clause-answers g c = λ all f p short calm.
 
 pub returns-in-Some-Run-clause-complete : goal.returns-in-Some-Run-clause-complete
 returns-in-Some-Run-clause-complete g c = λ logging fuel all f p good calm. c.serve_site.ensures.complete all p good calm
+
+pub show_sample-requires : goal.show_sample-requires
+show_sample-requires g c = sample_size _ _ (sym c.in-Some-Sample.ensures)
+
+pub returns-in-Some-Sample-clause-kept : goal.returns-in-Some-Sample-clause-kept
+returns-in-Some-Sample-clause-kept g c = kept_ended _ _ _ _ _ _ c.ended-in-Some-Sample.ensures.1 c.ended-in-Some-Sample.ensures.2
+
+pub returns-in-Some-Sample-clause-shows : goal.returns-in-Some-Sample-clause-shows
+returns-in-Some-Sample-clause-shows g c = λ number f calm.
+    subst Completes (sym c.ended-in-Some-Sample.ensures.0)
+    (completes_sample c.show_sample.result _ _ _ _ _ c.show_sample.ensures.samples c.show_sample.ensures.cause calm)
