@@ -126,7 +126,7 @@ halves_length one two a b =
     let y : length (piece_record 1 (second_half one)) ≤ 77 = piece_length 1 (second_half one) (omega arith) (second_length one a) in
     let z : length (piece_record 2 (second_half two)) ≤ 77 = piece_length 2 (second_half two) (omega arith) (second_length two b) in
     let e : length (by_halves one two) ≡ length (piece_record 1 (first_half one)) + length (piece_record 2 (first_half two)) + length (piece_record 1 (second_half one)) + length (piece_record 2 (second_half two)) =
-        four_lengths (piece_record 1 (first_half one)) (piece_record 2 (first_half two)) (piece_record 1 (second_half one)) (piece_record 2 (second_half two)) in
+    four_lengths (piece_record 1 (first_half one)) (piece_record 2 (first_half two)) (piece_record 1 (second_half one)) (piece_record 2 (second_half two)) in
     omega arith
 
 records_length : (n a : ℕ) → a + n ≤ 10001 → length (flat_map records_for (range_with_len a n)) ≤ 308 * n

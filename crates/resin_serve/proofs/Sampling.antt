@@ -1,5 +1,5 @@
 -- A run over a source, sinks and keepers that never fail.
-use Rattle.std.proofs.Common.{◌≡◌, ℕ, ◌+◌, ◌-◌, ◌≤◌, min, List, [], ◌++◌, length, Option, Some, None, refl, sym, ap, ◌∙◌, subst, arith}
+use Rattle.std.proofs.Common.{◌≡◌, ℕ, ◌+◌, ◌-◌, ◌≤◌, min, List, [], ◌++◌, length, Option, Some, None, refl, sym, ap, ◌∙◌, subst, arith, inl, inr}
 use Rattle.std.specs.FinMap.{empty}
 use Rattle.resin_site.specs.Under.base.Causes.{Rose}
 use Rattle.resin_site.specs.Under.base.FileStore.{FileStore}
@@ -13,7 +13,7 @@ use Rattle.resin_serve.specs.declared.status.Status.TheVariants.{Usage, BadTrace
 use Rattle.resin_serve.specs.declared.status.Status.TheVariants.{Ok as StatusOk, Memory as StatusMemory}
 use Rattle.resin_serve.specs.Meaning.{Meaning, order, bytes_of}
 use Rattle.resin_serve.specs.Ran.{World, world, part, Ran, Through}
-use Rattle.resin_serve.specs.Gives.{Sinks, CausedIn, counts, sinks}
+use Rattle.resin_serve.specs.Gives.{Sinks, RoseIn, CausedIn, counts, sinks}
 use Rattle.resin_serve.specs.Kept.{Keepers, keepers, Kept}
 use Rattle.resin_serve.specs.Whole_run.{RunOf, RunsFrom, ReadCause, Numbers, given_of_status}
 use Rattle.resin_serve.specs.Headline.{Completes, Calm}
@@ -27,12 +27,16 @@ still = sinks (counts 0 0) (counts 0 0) (counts 0 0)
 no_rise : Rose 0 0 → ⊥
 no_rise h = let l : min (0 + 1) (2 ^ 64 - 1) ≤ 0 = h in omega arith
 
+no_rise_in : RoseIn (counts 0 0) (counts 0 0) → ⊥
+no_rise_in (inl r) = no_rise r
+no_rise_in (inr r) = no_rise r
+
 calm : (k k' : Keepers) → k.file_faults ≡ 0 → k'.file_faults ≡ 0 → k.table_faults ≡ 0 → k'.table_faults ≡ 0 → Calm 0 0 still still k k'
 calm k k' e e' t t' = record {
   reads_stay = no_rise;
-  log_stays = λ h. elim h [ | inl r ↦ no_rise r | inr r ↦ no_rise r ];
-  mail_stays = λ h. elim h [ | inl r ↦ no_rise r | inr r ↦ no_rise r ];
-  out_stays = λ h. elim h [ | inl r ↦ no_rise r | inr r ↦ no_rise r ];
+  log_stays = no_rise_in;
+  mail_stays = no_rise_in;
+  out_stays = no_rise_in;
   files_stay = λ h. no_rise (subst (λ n. Rose 0 n) e' (subst (λ n. Rose n k'.file_faults) e h));
   tables_stay = λ h. no_rise (subst (λ n. Rose 0 n) t' (subst (λ n. Rose n k'.table_faults) t h));
 }
@@ -60,12 +64,12 @@ tells_counts StatusOk R T now files tables failed failed' made made' next log ma
     let n : next ≡ 1 + length xs = number good.events [] good.records in
     let none : failed' ≡ [] = no_fails _ _ kept f no_rise no_rise in
     let is : log' ≡ log ++ part 0 (bytes_of R failed' (state (record { files = lift_files files; tables = tables }) made) 1 xs) =
-        through _ R failed' xs log mail out log' mail' out' files tables told told' store' made made' (run.runs.1 good.events [] good.records) in
+    through _ R failed' xs log mail out log' mail' out' files tables told told' store' made made' (run.runs.1 good.events [] good.records) in
     let same : log' ≡ part 0 (bytes_of R [] (state (held files) 0) 1 xs) =
-        is ∙ ap (λ a. a ++ part 0 (bytes_of R failed' (state (record { files = lift_files files; tables = tables }) made) 1 xs)) l
-        ∙ ap (λ K. part 0 (bytes_of R K (state (record { files = lift_files files; tables = tables }) made) 1 xs)) none
-        ∙ ap (λ s. part 0 (bytes_of R [] (state (record { files = lift_files files; tables = s }) made) 1 xs)) t
-        ∙ ap (λ k. part 0 (bytes_of R [] (state (held files) k) 1 xs)) m in
+    is ∙ ap (λ a. a ++ part 0 (bytes_of R failed' (state (record { files = lift_files files; tables = tables }) made) 1 xs)) l
+    ∙ ap (λ K. part 0 (bytes_of R K (state (record { files = lift_files files; tables = tables }) made) 1 xs)) none
+    ∙ ap (λ s. part 0 (bytes_of R [] (state (record { files = lift_files files; tables = s }) made) 1 xs)) t
+    ∙ ap (λ k. part 0 (bytes_of R [] (state (held files) k) 1 xs)) m in
     (omega arith, record { records = good.events; whole = good.records; requests_are = (let e : next - 1 ≡ length xs = omega arith in e); denied_are = ap lines_in same })
 tells_counts Usage R T now files tables failed failed' made made' next log mail out log' mail' out' told told' store' kept m f t l good number run = tt
 tells_counts (BadTrace offset) R T now files tables failed failed' made made' next log mail out log' mail' out' told told' store' kept m f t l good number run = tt

@@ -39,7 +39,10 @@ pub(crate) fn task_of(words: &[String]) -> Option<Task>
     if !is_word(&words[1], b"--fuel") {
         return None;
     }
-    run_with(logging_of(&words[0]), number_up_to(100_000_000, words[2].as_bytes()))
+    run_with(
+        logging_of(&words[0]),
+        number_up_to(100_000_000, words[2].as_bytes()),
+    )
 }
 
 // What the log of a run tells that begins with this word.
