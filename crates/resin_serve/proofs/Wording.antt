@@ -4,7 +4,8 @@ use Rattle.std.specs.Prelude.{codes, nat_le, ◌&&◌}
 use Rattle.std.specs.Str.Parse.{digits_value}
 use Rattle.std.proofs.lemmas.Bool.{leb-true}
 use Rattle.resin_serve.specs.declared.logging.Logging.{Logging}
-use Rattle.resin_serve.specs.declared.words.Task.TheVariants.{Audit, Sample}
+use Rattle.resin_serve.specs.declared.words.Task.{Task}
+use Rattle.resin_serve.specs.declared.words.Task.TheVariants.{Run, Audit, Sample}
 use Rattle.resin_serve.specs.Words.{is_word, is_decimal, usual_fuel, most_fuel, most_sample, number_up_to, logging_of, run_with, sample_of, task_of}
 
 pub task_three : {A : Type 0} (f : A → List ℕ) (xs : List A) (a b c : A) → length xs ≡ 3 → a ≡ get_or xs 0 a → b ≡ get_or xs 1 b → c ≡ get_or xs 2 c
@@ -55,3 +56,10 @@ sample_size (w ∷ []) n e = absurd (one_word (is_word w (codes "audit")) (loggi
 sample_size (w ∷ m ∷ []) n e = two_words (is_word w (codes "sample")) m n e
 sample_size (w ∷ o ∷ m ∷ []) n e = absurd (three_words (is_word o (codes "--fuel")) (logging_of w) (number_up_to most_fuel m) n e)
 sample_size (w ∷ o ∷ m ∷ x ∷ ws) n e = absurd (cc)
+
+pub sized_sample : (ws : List (List ℕ)) (t : Task) (n : ℕ) → Some t ≡ task_of ws → t ≡ Sample n → n ≤ most_sample
+sized_sample ws t n e f = sample_size ws n (sym e ∙ ap Some f)
+
+-- words that ask for a sample ask for no run
+pub sample_alone : {P : Type 0} (o : Option Task) (t : Task) (n : ℕ) (logging : Logging) (fuel : ℕ) → Some t ≡ o → t ≡ Sample n → o ≡ Some (Run logging fuel) → P
+sample_alone o t n logging fuel e f h = let same : Some (Sample n) ≡ Some (Run logging fuel) = ap Some (sym f) ∙ e ∙ h in absurd (cc)

@@ -3,7 +3,7 @@ use Rattle.resin_serve.specs.Whole_run.{given_of_status}
 use Rattle.resin_serve.specs.Audits.{CompletesAudit}
 use Rattle.resin_serve.specs.Headline.{Completes}
 use Rattle.resin_serve.proofs.Ends.{kept_ended, no_task, caused_out, completes_audit, completes_sample}
-use Rattle.resin_serve.proofs.Wording.{sample_size}
+use Rattle.resin_serve.proofs.Wording.{sized_sample, sample_alone}
 use Rattle.resin_serve.proofs.top.serve.Goals as goal
 
 pub returns-in-None-clause-run : goal.returns-in-None-clause-run
@@ -25,7 +25,10 @@ pub returns-in-Some-Run-clause-complete : goal.returns-in-Some-Run-clause-comple
 returns-in-Some-Run-clause-complete g c = λ logging fuel all f p good calm. c.serve_site.ensures.complete all p good calm
 
 pub show_sample-requires : goal.show_sample-requires
-show_sample-requires g c = sample_size _ _ (sym c.in-Some-Sample.ensures)
+show_sample-requires g c = sized_sample _ _ _ c.in-Some-Sample.ensures c.in-Some-Sample.is
+
+pub returns-in-Some-Sample-clause-run : goal.returns-in-Some-Sample-clause-run
+returns-in-Some-Sample-clause-run g c = λ logging fuel all f p. sample_alone _ _ _ _ _ c.in-Some-Sample.ensures c.in-Some-Sample.is f
 
 pub returns-in-Some-Sample-clause-kept : goal.returns-in-Some-Sample-clause-kept
 returns-in-Some-Sample-clause-kept g c = kept_ended _ _ _ _ _ _ c.ended-in-Some-Sample.ensures.1 c.ended-in-Some-Sample.ensures.2

@@ -10,8 +10,8 @@ returns-in_default-clause-run g c = λ all p. runs_ended _ _ _ all _ _ _ _ _ _ _
 pub returns-in_default-clause-kept : goal.returns-in_default-clause-kept
 returns-in_default-clause-kept g c = kept_ended _ _ _ _ _ _ c.ended.ensures.1 c.ended.ensures.2
 
-pub serve_trace-status-requires-numbered : goal.serve_trace-status-requires-numbered
-serve_trace-status-requires-numbered g c = none_numbered _ c.in-Ok.ensures.failed
+pub serve_trace-status-requires-clause-numbered : goal.serve_trace-status-requires-clause-numbered
+serve_trace-status-requires-clause-numbered g c = none_numbered _ c.in-Ok.ensures.failed
 
 pub returns-clause-run : goal.returns-clause-run
 returns-clause-run g c = λ all p.
