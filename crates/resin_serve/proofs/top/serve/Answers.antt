@@ -25,10 +25,10 @@ pub returns-in-Some-Run-clause-complete : goal.returns-in-Some-Run-clause-comple
 returns-in-Some-Run-clause-complete g c = λ logging fuel all f p good calm. c.serve_site.ensures.complete all p good calm
 
 pub show_sample-requires : goal.show_sample-requires
-show_sample-requires g c = sized_sample _ _ _ c.in-Some-Sample.ensures c.in-Some-Sample.is
+show_sample-requires g c = sized_sample _ _ _ c.in-Some-Sample.ensures c.in-Some-Sample.field-0-is
 
 pub returns-in-Some-Sample-clause-run : goal.returns-in-Some-Sample-clause-run
-returns-in-Some-Sample-clause-run g c = λ logging fuel all f p. sample_alone _ _ _ _ _ c.in-Some-Sample.ensures c.in-Some-Sample.is f
+returns-in-Some-Sample-clause-run g c = λ logging fuel all f p. sample_alone _ _ _ _ _ c.in-Some-Sample.ensures c.in-Some-Sample.field-0-is f
 
 pub returns-in-Some-Sample-clause-kept : goal.returns-in-Some-Sample-clause-kept
 returns-in-Some-Sample-clause-kept g c = kept_ended _ _ _ _ _ _ c.ended-in-Some-Sample.ensures.1 c.ended-in-Some-Sample.ensures.2
