@@ -1,76 +1,9 @@
-//! How bytes, numbers, sets and texts are spelled in a row, read and written.
+//! How sets and texts are spelled in a row, read and written.
 
-use crate::stop::Stop;
 use resin_ops::under::label::PSet;
-use resin_ops::under::lstr::{Builder, LText, TextFault};
+use resin_ops::under::lstr::{Builder, LText};
+use resin_table_rows::{Line, bytes_in, cut};
 use std::alloc::{AllocError, Global};
-
-/// The arguments of a row.
-#[derive(Clone, Copy)]
-pub struct Arguments<'a> {
-    pub alloc: Global,
-    pub fields: &'a [&'a str],
-}
-
-impl<'a> Arguments<'a> {
-    /// A field, empty where the row has none there.
-    pub fn field(self, i: usize) -> &'a str {
-        self.fields.get(i).copied().unwrap_or("")
-    }
-
-    /// The fields behind the first one.
-    pub fn steps(self) -> &'a [&'a str] {
-        self.fields.get(1..).unwrap_or(&[])
-    }
-
-    /// The bytes that a field spells.
-    pub fn bytes(self, i: usize) -> Result<Vec<u8>, AllocError> {
-        bytes_in(self.alloc, self.field(i))
-    }
-}
-
-// The byte that stands behind a backslash.
-fn escaped(b: u8) -> u8 {
-    match b {
-        b's' => b' ',
-        b'n' => b'\n',
-        b'r' => b'\r',
-        b't' => b'\t',
-        _ => b,
-    }
-}
-
-/// The bytes that a field spells.
-pub fn bytes_in(alloc: Global, field: &str) -> Result<Vec<u8>, AllocError> {
-    let mut out = Vec::new(alloc);
-    let mut escape = false;
-    for b in field.as_bytes() {
-        if escape {
-            out.push(escaped(*b))?;
-            escape = false;
-        } else if *b == b'\\' {
-            escape = true;
-        } else {
-            out.push(*b)?;
-        }
-    }
-    Ok(out)
-}
-
-/// The integer that a field spells.
-pub fn integer_in(field: &str) -> Result<i64, Stop> {
-    field.parse::<i64>().map_err(|_| Stop::Unreadable)
-}
-
-/// The number of a policy or an object.
-pub fn number_in(field: &str) -> Result<u32, Stop> {
-    field.parse::<u32>().map_err(|_| Stop::Unreadable)
-}
-
-/// A place or a count.
-pub fn count_in(field: &str) -> Result<usize, Stop> {
-    field.parse::<usize>().map_err(|_| Stop::Unreadable)
-}
 
 /// The set of the digits of a text, put together in their order.
 pub fn digits_in(alloc: Global, digits: &str) -> Result<PSet, AllocError> {
@@ -87,64 +20,68 @@ pub fn set_in(alloc: Global, field: &str) -> Result<PSet, AllocError> {
     digits_in(alloc, inside.strip_suffix('}').unwrap_or(inside))
 }
 
-fn append_piece(alloc: Global, out: Builder, piece: &str) -> Result<Builder, TextFault> {
-    let (field, digits) = piece.split_once('{').unwrap_or((piece, ""));
+/// Bytes and the set that they carry.
+struct Piece {
+    bytes: Vec<u8>,
+    set: PSet,
+}
+
+impl Drop for Piece {
+    fn drop(self) {
+        let Piece { bytes: _, set: _ } = self;
+    }
+}
+
+fn piece_in(alloc: Global, piece: &str) -> Result<Piece, AllocError> {
+    let (field, digits) = cut(piece, '{');
     let bytes = bytes_in(alloc, field)?;
     let set = digits_in(alloc, digits)?;
-    out.append_bytes(&bytes, &set)
+    Ok(Piece { bytes, set })
+}
+
+fn append_piece(alloc: Global, out: Builder, piece: &str) -> Result<Builder, AllocError> {
+    let piece = piece_in(alloc, piece)?;
+    match out.append_bytes(&piece.bytes, &piece.set) {
+        Ok(out) => Ok(out),
+        Err(_) => Err(AllocError),
+    }
 }
 
 /// The labelled text that a field spells.
-pub fn text_in(alloc: Global, field: &str) -> Result<LText, TextFault> {
+pub fn text_in(alloc: Global, field: &str) -> Result<LText, AllocError> {
     let mut out = Builder::new(alloc);
     for piece in field.split('}') {
         out = append_piece(alloc, out, piece)?;
     }
-    Ok(out.finish()?)
-}
-
-// Puts a byte last as a field spells it.
-fn push_byte(out: &mut String, b: u8) -> Result<(), AllocError> {
-    match b {
-        b' ' => out.push_str("\\s"),
-        b'\n' => out.push_str("\\n"),
-        b'\r' => out.push_str("\\r"),
-        b'\t' => out.push_str("\\t"),
-        b'\\' => out.push_str("\\\\"),
-        33..=126 => out.push(char::from(b)),
-        _ => write!(out, "\\x{b:02x}"),
-    }
+    out.finish()
 }
 
 /// Puts bytes last as a field spells them; many as their count.
-pub fn push_bytes(out: &mut String, bytes: &[u8]) -> Result<(), AllocError> {
+pub fn push_bytes(out: &mut Line, bytes: &[u8]) {
     let count = bytes.len();
     if count > 100 {
-        return write!(out, "({count})");
+        write!(out, "({count})");
+    } else {
+        out.push_bytes(bytes);
     }
-    for b in bytes {
-        push_byte(out, *b)?;
-    }
-    Ok(())
 }
 
 /// Puts a set last, between braces.
-pub fn push_set(out: &mut String, set: &PSet) -> Result<(), AllocError> {
-    out.push('{')?;
+pub fn push_set(out: &mut Line, set: &PSet) {
+    out.push('{');
     for n in set.as_slice() {
-        write!(out, "{n}")?;
+        write!(out, "{n}");
     }
-    out.push('}')
+    out.push('}');
 }
 
 /// Puts a text last as its runs, the bytes of each and its set.
-pub fn push_text(out: &mut String, text: &LText) -> Result<(), AllocError> {
+pub fn push_text(out: &mut Line, text: &LText) {
     let mut from = 0;
     for run in text.runs() {
         let to = run.end as usize;
-        push_bytes(out, text.bytes().get(from..to).unwrap_or(&[]))?;
-        push_set(out, &run.set)?;
+        push_bytes(out, text.bytes().get(from..to).unwrap_or(&[]));
+        push_set(out, &run.set);
         from = to;
     }
-    Ok(())
 }
