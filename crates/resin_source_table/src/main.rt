@@ -17,32 +17,50 @@ mod parts;
 mod sums;
 mod words;
 
+use resin_table_rows::Line;
 use std::alloc::{AllocError, Global};
 use std::io;
 
-fn answer(alloc: Global, line: &str) -> Result<String, AllocError> {
-    let Some((asked, rest)) = line.split_once('|') else {
-        return String::from_str(alloc, "unknown");
-    };
+fn push_answer(
+    alloc: Global,
+    out: &mut Line,
+    asked: &str,
+    rest: &str,
+) -> Result<(), AllocError> {
     match asked {
-        "sum" => sums::outcome(alloc, rest),
+        "sum" => sums::push_outcome(alloc, out, rest),
         "list" | "boxed" | "shared" | "bytes" | "function" | "class" | "chain" => {
-            parts::answer(alloc, asked, rest)
+            parts::push_answer(alloc, out, asked, rest)
         }
         "height" | "low" | "literal" | "trees" | "place" | "open" | "path" => {
-            heights::answer(alloc, asked, rest)
+            heights::push_answer(alloc, out, asked, rest)
         }
-        "digits" | "constant" => kinds::answer_about(alloc, asked, rest),
-        _ => kinds::answer(alloc, asked, rest),
+        "digits" | "constant" => {
+            kinds::push_known(out, asked, rest);
+            Ok(())
+        }
+        _ => kinds::push_answer(alloc, out, asked, rest),
+    }
+}
+
+fn push_row(alloc: Global, out: &mut Line, line: &str) {
+    out.push_str(" = ");
+    match line.split_once('|') {
+        Some((asked, rest)) => {
+            let done = push_answer(alloc, out, asked, rest);
+            out.note(done);
+        }
+        None => out.push_str("unknown"),
     }
 }
 
 fn answered(alloc: Global, line: &str) -> Result<String, AllocError> {
-    if line.starts_with('#') {
-        return String::from_str(alloc, line);
+    let mut out = Line::new(alloc);
+    out.push_str(line);
+    if !line.starts_with('#') {
+        push_row(alloc, &mut out, line);
     }
-    let answer = answer(alloc, line)?;
-    format!(in alloc; "{line} = {answer}")
+    out.end()
 }
 
 fn main(rt: HostRuntime) -> io::Result<()> {
