@@ -58,9 +58,9 @@ pub fn array_values(alloc: Global, a: &Arr) -> Result<Arr, CallStop>
     Ok(out)
 }
 
-/// `array_merge`: the entries of all arrays, one array after the other. Integer keys are numbered anew from 0; a text key that is there already takes the
-/// later value in its place. `TypeError` is thrown at the first value that isn't an array, and `ArrayTooDeep` comes where the array would be more than 100
-/// arrays high, whichever is first.
+/// `array_merge`: the entries of all arrays, one array after the other. Integer keys are numbered anew from 0; a text key that is there already
+/// takes the later value in its place. `TypeError` is thrown at the first value that isn't an array, and `ArrayTooDeep` comes where the array
+/// would be more than 100 arrays high, whichever is first.
 pub fn array_merge(alloc: Global, arrays: &[Value]) -> Result<Arr, CallStop>
     ensures { GivesOrNoMemory result (array_merge (trees_of arrays.now)) }
 {
@@ -74,8 +74,8 @@ pub fn array_merge(alloc: Global, arrays: &[Value]) -> Result<Arr, CallStop>
     Ok(out)
 }
 
-/// `array_slice`: the entries from `offset` on, `count` of them. A negative offset counts from the end, at least 0; past the end the answer is empty. A
-/// negative count leaves that many off the end, and `None` takes all. Integer keys are numbered anew from 0 unless `keep`.
+/// `array_slice`: the entries from `offset` on, `count` of them. A negative offset counts from the end, at least 0; past the end the answer is
+/// empty. A negative count leaves that many off the end, and `None` takes all. Integer keys are numbered anew from 0 unless `keep`.
 pub fn array_slice(
     alloc: Global,
     a: &Arr,

@@ -1,7 +1,8 @@
-//! The array functions that scripts call by name (PHP manual, "Array Functions", in this project's profile), and arrays as lists of texts. An array that a
-//! call gives is a new one, whose values are those of the old one with their labels; counts, booleans and keys carry nothing.
+//! The array functions that scripts call by name (PHP manual, "Array Functions", in this project's profile), and arrays as lists of texts. An
+//! array that a call gives is a new one, whose values are those of the old one with their labels; counts, booleans and keys carry nothing.
 //!
-//! A call answers its value, an exception that the script can catch, a fault of the script, or want of memory. It takes time in proportion to the entries.
+//! A call answers its value, an exception that the script can catch, a fault of the script, or want of memory. It takes time in proportion to the
+//! entries.
 #![tactic(auto)]
 
 mod arrays;

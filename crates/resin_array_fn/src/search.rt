@@ -9,9 +9,9 @@ use resin_ops::under::scalar::{CallStop, ScriptFault, Ticks};
 use resin_ops::under::value::{Arr, CompareFault, Value, equal, identical};
 use std::alloc::Global;
 
-/// `in_array`: whether a value of the array is `needle`, by `===` where the search is strict, else by `==` with `needle` on the left. The first that fits ends
-/// the search. It costs a tick for each pair of values that is compared inside two arrays; `FuelSpent` comes exactly where none is left for the next pair,
-/// `ObjectComparison` and `FloatNeeded` exactly where `==` gives them at a value that is reached.
+/// `in_array`: whether a value of the array is `needle`, by `===` where the search is strict, else by `==` with `needle` on the left. The first
+/// that fits ends the search. It costs a tick for each pair of values that is compared inside two arrays; `FuelSpent` comes exactly where none is
+/// left for the next pair, `ObjectComparison` and `FloatNeeded` exactly where `==` gives them at a value that is reached.
 pub fn in_array(needle: &Value, a: &Arr, strict: bool, ticks: &mut Ticks) -> Result<bool, CallStop>
     ensures answer { result ≡ (in_array (tree_of needle.now) a.now strict ticks.old.left).0 }
     ensures charged { ticks.new.left ≡ (in_array (tree_of needle.now) a.now strict ticks.old.left).1 }

@@ -9,7 +9,7 @@ use crate::labels::{Carried, read_labelled};
 use crate::rest::Rest;
 use crate::stop::Stop;
 use resin_journal::Channel;
-use resin_lstr::MAX_LEN;
+use resin_lstr::LONGEST;
 use std::alloc::Global;
 
 /// What an event says, as far as the access law asks.
@@ -161,7 +161,7 @@ fn read_heading(fields: Fields<'_>) -> Option<Heading>
     let mut fields = fields;
     let write = fields.number(u64::MAX)?;
     let channel = fields.channel()?;
-    let len = fields.number(MAX_LEN as u64)?;
+    let len = fields.number(LONGEST as u64)?;
     let count = fields.number(u64::MAX)?;
     fields.end()?;
     Some(Heading {

@@ -10,7 +10,7 @@ use crate::fields::Fields;
 use crate::rest::Rest;
 use crate::stop::Stop;
 use indexmap::IndexSet;
-use resin_lstr::{MAX_LEN, Numbers};
+use resin_lstr::{LONGEST, Numbers};
 use std::alloc::{AllocError, Global};
 use std::marker::Model;
 
@@ -161,7 +161,7 @@ fn run_of(alloc: Global, fields: Fields<'_>) -> Result<RunLine, Stop>
     ensures { Gives (option_map as_line (spec.run_of fields.entry)) result }
 {
     let mut fields = fields;
-    let Some(len) = fields.number(MAX_LEN as u64) else {
+    let Some(len) = fields.number(LONGEST as u64) else {
         return Err(Stop::Form);
     };
     let policies = read_policies(alloc, fields)?;

@@ -6,11 +6,11 @@
 //! - `wide|COUNT`: the verdict on a text that went out, all of whose bytes carry so many policies, each of which had returned;
 //! - `journal|REQUEST|EVENT|EVENT..`: the journal of these events as text, and the verdict on it.
 //!
-//! In a text `\n` stands for a newline, `\t` for a tab, `\r` for a carriage return, and a backslash before another byte for that byte. The bytes of an
-//! event's text are spelled as `ab{12}c{}`: `ab` carries the policies 1 and 2, `c` none.
+//! In a text `\n` stands for a newline, `\t` for a tab, `\r` for a carriage return, and a backslash before another byte for that byte. The bytes
+//! of an event's text are spelled as `ab{12}c{}`: `ab` carries the policies 1 and 2, `c` none.
 //!
-//! The output was worked out by hand from the format of the file and from the access law, but for the last rows: their verdicts are those of another program,
-//! which tries the law on each front of each journal.
+//! The output was worked out by hand from the format of the file and from the access law, but for the last rows: their verdicts are those of
+//! another program, which tries the law on each front of each journal.
 #![tactic(auto)]
 
 mod events;

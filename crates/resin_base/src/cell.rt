@@ -2,7 +2,7 @@
 ghost use Rattle.std.specs.Prelude.{◌≡◌, [], ◌∷◌, ◌++◌, OnOk, OnErr};
 
 use crate::row_place::row_place;
-use resin_bytes::Bytes;
+use resin_bytes::{Bytes, Items};
 use std::alloc::{AllocError, Global};
 use std::marker::Model;
 
@@ -36,88 +36,10 @@ pub struct Row {
 }
 
 /// The columns of a table.
-#[derive(Drop)]
-pub struct Columns {
-    items: Vec<Column>,
-}
-
-impl Model for Columns {
-    ghost use Rattle.std.specs.Prelude.{List};
-    ghost use Rattle.resin_base.specs.declared.cell.Column.{Column};
-
-    ghost Value = { List Column };
-
-    ghost view = { λ b. b.items.items };
-}
-
-impl Columns {
-    /// The empty list, which takes no memory.
-    pub fn new(alloc: Global) -> Columns
-        ensures { result ≡ [] }
-    {
-        Columns {
-            items: Vec::new(alloc),
-        }
-    }
-
-    /// The columns in order.
-    pub fn as_slice(&self) -> &[Column]
-        ensures { result.now ≡ self.now }
-    {
-        self.items.as_slice()
-    }
-
-    /// Puts a column last. After want of memory the list is as before.
-    pub fn push(&mut self, item: Column) -> Result<(), AllocError>
-        ensures ok { OnOk result (self.new ≡ self.old ++ item ∷ []) }
-        ensures err { OnErr result (self.new ≡ self.old) }
-    {
-        self.items.push(item)?;
-        Ok(())
-    }
-}
+pub type Columns = Items<Column>;
 
 /// The cells of a row.
-#[derive(Drop)]
-pub struct Cells {
-    items: Vec<Cell>,
-}
-
-impl Model for Cells {
-    ghost use Rattle.std.specs.Prelude.{List};
-    ghost use Rattle.resin_base.specs.declared.cell.Cell.{Cell};
-
-    ghost Value = { List Cell };
-
-    ghost view = { λ b. b.items.items };
-}
-
-impl Cells {
-    /// The empty list, which takes no memory.
-    pub fn new(alloc: Global) -> Cells
-        ensures { result ≡ [] }
-    {
-        Cells {
-            items: Vec::new(alloc),
-        }
-    }
-
-    /// The cells in order.
-    pub fn as_slice(&self) -> &[Cell]
-        ensures { result.now ≡ self.now }
-    {
-        self.items.as_slice()
-    }
-
-    /// Puts a cell last. After want of memory the list is as before.
-    pub fn push(&mut self, item: Cell) -> Result<(), AllocError>
-        ensures ok { OnOk result (self.new ≡ self.old ++ item ∷ []) }
-        ensures err { OnErr result (self.new ≡ self.old) }
-    {
-        self.items.push(item)?;
-        Ok(())
-    }
-}
+pub type Cells = Items<Cell>;
 
 /// Rows of a table.
 #[derive(Drop)]

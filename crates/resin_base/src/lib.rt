@@ -1,4 +1,8 @@
 //! The outside of the runtime as traits: where bytes come from and go, and the keepers of files and tables.
+//!
+//! A `Source`, a `Sink`, `Files` or `Tables` tells its count of faults, and may tell its contents; the traits say what each call does to them
+//! (`specs/Causes.antt`, `Contents.antt`, `FileStore.antt`, `TableStore.antt`, `Moves.antt`). A fault comes only where the count rose in that call.
+//! `Calls` numbers the keeper calls of a run, and promises that exactly the failed ones are listed (`specs/Numbering.antt`).
 #![tactic(auto)]
 
 mod calls;

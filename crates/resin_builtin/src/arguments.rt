@@ -77,7 +77,8 @@ pub(crate) fn text_or<'a>(
     i: usize,
     other: &'a LText,
 ) -> Result<&'a LText, CallStop>
-    ensures { MatchResult result (λ t. or_default as_text other.now (slice_get (trees_of args.now) i) ≡ Ok t.now) (λ stop. or_default as_text other.now (slice_get (trees_of args.now) i) ≡ Err stop) }
+    ensures { MatchResult result (λ t. or_default as_text other.now (slice_get (trees_of args.now) i) ≡ Ok t.now)
+        (λ stop. or_default as_text other.now (slice_get (trees_of args.now) i) ≡ Err stop) }
 {
     match nth(args, i) {
         Some(value) => as_text(value),

@@ -29,14 +29,14 @@ use resin_format::under::label::PSet;
 use resin_format::under::scalar::{CallStop, ErrorKind, ScriptFault, Spent, Ticks};
 use std::alloc::Global;
 
-/// Calls a builtin function by its name, in any case of ASCII letters, with arguments that were turned into their kinds. `set` is what `md5`, `sha1` and
-/// `intdiv`, and `intval` of a text, give their answer as its labels.
+/// Calls a builtin function by its name, in any case of ASCII letters, with arguments that were turned into their kinds. `set` is what `md5`,
+/// `sha1` and `intdiv`, and `intval` of a text, give their answer as its labels.
 ///
-/// A call costs a tick for each 256 bytes of a text and for each entry of an array that it takes, charged before the work, and the same for its answer,
-/// charged after it; searches of `str_replace` and comparisons of `in_array` cost more. `FuelSpent` comes exactly where a charge is larger than what is left.
-/// Another count of arguments throws `ArgumentCountError` and an argument of another kind `TypeError`; every other exception and fault is that of the
-/// function. `UndefinedFunction` comes exactly for a name that no function has, and for `get_class`. Want of memory may come in the place of any answer, and
-/// leaves the ticks as they were.
+/// A call costs a tick for each 256 bytes of a text and for each entry of an array that it takes, charged before the work, and the same for its
+/// answer, charged after it; searches of `str_replace` and comparisons of `in_array` cost more. `FuelSpent` comes exactly where a charge is
+/// larger than what is left. Another count of arguments throws `ArgumentCountError` and an argument of another kind `TypeError`; every other
+/// exception and fault is that of the function. `UndefinedFunction` comes exactly for a name that no function has, and for `get_class`. Want of
+/// memory may come in the place of any answer, and leaves the ticks as they were.
 pub fn call(
     alloc: Global,
     name: &[u8],

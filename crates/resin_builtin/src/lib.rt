@@ -1,8 +1,8 @@
 //! The builtin functions that scripts call by name: what each takes, what it costs and what it answers.
 //!
 //! A caller looks the name up by `signature`, tests the count of the arguments by `Sig::takes`, turns each by `Sig::turned`, merges labels where
-//! `Sig::merges` says so, and then makes the `call`. For the arguments of `sprintf` behind its format it asks `int_places`, and turns those that are read as
-//! integers by `resin_array_fn::under::ops::to_int`. `get_class` reads the classes of objects, so that its caller evaluates it.
+//! `Sig::merges` says so, and then makes the `call`. For the arguments of `sprintf` behind its format it asks `int_places`, and turns those that
+//! are read as integers by `resin_array_fn::under::ops::to_int`. `get_class` reads the classes of objects, so that its caller evaluates it.
 #![tactic(auto)]
 
 mod answers;

@@ -32,7 +32,8 @@ pub struct Sig {
     pub least: u8,
     /// How many there are at most; 255 stands for no limit.
     pub most: u8,
-    /// Whether the answer carries the merged labels of arguments: those of the text of `md5`, `sha1` and `intval`, those of both integers of `intdiv`.
+    /// Whether the answer carries the merged labels of arguments: those of the text of `md5`, `sha1` and `intval`, those of both integers of
+    /// `intdiv`.
     pub merges: bool,
 }
 

@@ -14,11 +14,12 @@ use resin_format::under::scalar::{CallStop, ErrorKind, NumFault, Scalar, ScriptF
 use std::alloc::Global;
 
 impl Sig {
-    /// The argument with the number `i`, from 0, as its kind. A text that becomes an integer loses its labels: the caller merges them, and puts the merged
-    /// set in. `TypeError` is thrown exactly where the kind doesn't take the value, `FloatNeeded` comes exactly for a text in a float form where an integer
-    /// is wanted.
+    /// The argument with the number `i`, from 0, as its kind. A text that becomes an integer loses its labels: the caller merges them, and puts
+    /// the merged set in. `TypeError` is thrown exactly where the kind doesn't take the value, `FloatNeeded` comes exactly for a text in a float
+    /// form where an integer is wanted.
     pub fn turned(&self, alloc: Global, i: u8, value: &Value) -> Result<Value, CallStop>
-        ensures { GivesOrNoMemory (seen_answer result) (turned (kind_at (parameters self.now.builtin) i) (null_is_default self.now.builtin i) (tree_of value.now)) }
+        ensures { GivesOrNoMemory (seen_answer result)
+            (turned (kind_at (parameters self.now.builtin) i) (null_is_default self.now.builtin i) (tree_of value.now)) }
     {
         match value {
             Value::Null if self.null_is_default(i) => Ok(Value::Null),

@@ -1,8 +1,9 @@
-//! Prints what calls of builtin functions answer and the ticks that they leave, one call a line. A line is a name, the ticks before the call, the set that is
-//! handed in and the arguments, with spaces between them. An argument is `n` for null, `t` or `f`, `i:` with an integer, `s:` with a text, `o:` with the number
-//! of an object, or an array between `[` and `]`, whose values follow one another, each behind `k:` with its key where that isn't the next one. `{12}` behind an
-//! integer or behind bytes gives them the policies 1 and 2; in texts `\s`, `\n`, `\r`, `\t`, `\\` and `\xhh` stand for a byte. `turn` and the number of an
-//! argument before a name ask how an argument is turned, and `kinds` what a function takes. The answers were worked out by PHP, and by hand for labels and ticks.
+//! Prints what calls of builtin functions answer and the ticks that they leave, one call a line. A line is a name, the ticks before the call, the
+//! set that is handed in and the arguments, with spaces between them. An argument is `n` for null, `t` or `f`, `i:` with an integer, `s:` with a
+//! text, `o:` with the number of an object, or an array between `[` and `]`, whose values follow one another, each behind `k:` with its key where
+//! that isn't the next one. `{12}` behind an integer or behind bytes gives them the policies 1 and 2; in texts `\s`, `\n`, `\r`, `\t`, `\\` and
+//! `\xhh` stand for a byte. `turn` and the number of an argument before a name ask how an argument is turned, and `kinds` what a function takes.
+//! The answers were worked out by PHP, and by hand for labels and ticks.
 #![tactic(auto)]
 
 ghost use Rattle.std.specs.Prelude.{◌<◌, length};

@@ -1,5 +1,5 @@
-//! The program: serves the trace on standard input over the folder `site/`, and writes the answers to standard output; or audits the journal file of a
-//! run, which stands on standard input.
+//! The program: serves the trace on standard input over the folder `site/`, and writes the answers to standard output; or audits the journal file
+//! of a run, which stands on standard input.
 #![tactic(auto)]
 
 mod fault;

@@ -2,11 +2,10 @@
 ghost use Rattle.std.specs.Prelude.{◌≡◌, ◌<◌, ◌≤◌, ◌++◌, length, false, OnOk};
 ghost use Rattle.std.specs.Fmt.{digit_glyph};
 ghost use Rattle.std.specs.List.{flat_map};
-ghost use Rattle.resin_lstr.specs.Texts.{LONGEST};
 ghost use Rattle.resin_escape_fn.specs.Escapes.{html_entity, slashed, doubled_quote, stays_in_url, url_escape, raw_url_escape, hex_pair};
 
 use percent_encoding::percent_encode_byte;
-use resin_lstr::{MAX_LEN, TextFault};
+use resin_lstr::{LONGEST, TextFault};
 use std::alloc::AllocError;
 use std::slice::from_ref;
 
@@ -48,7 +47,7 @@ impl Escape {
     {
         for byte in bytes {
             self.push(out, *byte)?;
-            if out.len() > MAX_LEN {
+            if out.len() > LONGEST {
                 return Err(TextFault::TooLong);
             }
         }

@@ -8,6 +8,4 @@ pub mod Fronts
 pub mod Loops
 pub mod Drops
 pub mod Turns
-pub mod Gives
 pub mod Alike
-pub mod Inside

@@ -48,22 +48,30 @@ abbrev pub EndsBefore : {Token : Type 0} → (Token → Bool) → List Token →
 EndsBefore test [] = Unit {0}
 EndsBefore test (t ∷ ts) = test t ≡ false
 
+-- how a value and a token, and what the tokens behind it begin with, make the next value and what is left
+abbrev pub Step : Type 0 → Type 0 → Type 1
+Step Token A = A → Token → List Token → A → List Token → Type 0
+
 -- a step again and again, as long as the next token passes
-pub data Many {Token A : Type 0} (test : A → Token → Bool) (step : A → Token → List Token → A → List Token → Type 0) : A → List Token → A → List Token → Type 0 where
+pub data Many {Token A : Type 0} (test : A → Token → Bool) (step : Step Token A) : A → List Token → A → List Token → Type 0 where
   done : {a : A} {ts : List Token} → EndsBefore (test a) ts → Many test step a ts a ts
-  more : {a b v : A} {t : Token} {ts mid rest : List Token} → test a t ≡ true → step a t ts b mid → Many test step b mid v rest → Many test step a (t ∷ ts) v rest
+  more : {a b v : A} {t : Token} {ts mid rest : List Token} → test a t ≡ true → step a t ts b mid → Many test step b mid v rest
+      → Many test step a (t ∷ ts) v rest
 
 -- the same, where the last step is begun and isn't whole
-pub data ManyBegins {Token A : Type 0} (test : A → Token → Bool) (step : A → Token → List Token → A → List Token → Type 0) (begins : A → Token → List Token → Type 0) : A → List Token → Type 0 where
+pub data ManyBegins {Token A : Type 0} (test : A → Token → Bool) (step : Step Token A) (begins : A → Token → List Token → Type 0)
+    : A → List Token → Type 0 where
   inside : {a : A} {t : Token} {w : List Token} → test a t ≡ true → begins a t w → ManyBegins test step begins a (t ∷ w)
-  after : {a b : A} {t : Token} {w mid : List Token} → test a t ≡ true → step a t w b mid → ManyBegins test step begins b mid → ManyBegins test step begins a (t ∷ w)
+  after : {a b : A} {t : Token} {w mid : List Token} → test a t ≡ true → step a t w b mid → ManyBegins test step begins b mid
+      → ManyBegins test step begins a (t ∷ w)
 
 -- a token, and then this
 abbrev pub taken : {Token Name : Type 0} {Value : Name → Type 0} {A : Type 0} → Form Token Name Value A → After Token Name Value Own A
 taken F = plain F
 
 -- the token opens a construct, to the right of a tree of this height
-abbrev pub opens : {Token Name : Type 0} {Value : Name → Type 0} {b : Begin} {A : Type 0} → ℕ → After Token Name Value b A → After Token Name Value b A
+abbrev pub opens : {Token Name : Type 0} {Value : Name → Type 0} {b : Begin} {A : Type 0} → ℕ → After Token Name Value b A
+    → After Token Name Value b A
 opens height F = limited Opens height F
 
 -- the token is the first of a construct, which the name for it has begun
@@ -71,12 +79,14 @@ abbrev pub enters : {Token Name : Type 0} {Value : Name → Type 0} {b : Begin} 
 enters F = limited Enters 0 F
 
 -- the token opens nothing, and stands to the right of a tree of this height
-abbrev pub stands : {Token Name : Type 0} {Value : Name → Type 0} {b : Begin} {A : Type 0} → ℕ → After Token Name Value b A → After Token Name Value b A
+abbrev pub stands : {Token Name : Type 0} {Value : Name → Type 0} {b : Begin} {A : Type 0} → ℕ → After Token Name Value b A
+    → After Token Name Value b A
 stands height F = limited Stands height F
 
 -- `allows`: whether a construct may open or be entered, or a token stand, to the right of a tree of this height;
 -- `Called`: what the names spell
-module _ {Token Name : Type 0} {Value : Name → Type 0} (allows : Weight → ℕ → Bool) (Called : (n : Name) → List Token → Value n → List Token → Type 0) where
+module _ {Token Name : Type 0} {Value : Name → Type 0} (allows : Weight → ℕ → Bool)
+    (Called : (n : Name) → List Token → Value n → List Token → Type 0) where
   abbrev mutual
     -- `Spells F ts v rest`: ts begin with the form F, which gives v, and go on with rest
     pub Spells : {A : Type 0} → Form Token Name Value A → List Token → A → List Token → Type 0

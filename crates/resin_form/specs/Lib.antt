@@ -2,5 +2,5 @@ pub mod Form
 pub mod Reading
 pub mod Meaning
 pub mod Reads
-pub mod Parity
 pub mod Lift
+pub mod InARow

@@ -9,7 +9,6 @@
 
 mod cursor;
 mod fault;
-pub mod parity;
 
 pub use cursor::Cursor;
 pub use fault::Fault;

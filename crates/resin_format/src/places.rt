@@ -1,55 +1,16 @@
 //! How a format reads its arguments.
-ghost use Rattle.std.specs.Prelude.{◌≡◌, [], ◌∷◌, ◌++◌, OnOk, OnErr, IfOk};
+ghost use Rattle.std.specs.Prelude.{◌≡◌, IfOk};
 ghost use Rattle.resin_format.specs.Directives.{directives, kinds, is_integer_place, thrown};
 
 use crate::form::{Form, Kind};
 use crate::walk::next_form;
+use resin_bytes::Items;
 use resin_lstr::LText;
 use resin_scalar::ErrorKind;
 use std::alloc::{AllocError, Global};
-use std::marker::Model;
 
 /// A list of how arguments are read.
-#[derive(Drop)]
-pub struct Kinds {
-    items: Vec<Kind>,
-}
-
-impl Model for Kinds {
-    ghost use Rattle.std.specs.Prelude.{List};
-    ghost use Rattle.resin_format.specs.declared.form.Kind.{Kind};
-
-    ghost Value = { List Kind };
-
-    ghost view = { λ a. a.items.items };
-}
-
-impl Kinds {
-    /// The empty list, which takes no memory.
-    pub fn new(alloc: Global) -> Kinds
-        ensures { result ≡ [] }
-    {
-        Kinds {
-            items: Vec::new(alloc),
-        }
-    }
-
-    /// The kinds in order.
-    pub fn as_slice(&self) -> &[Kind]
-        ensures { result.now ≡ self.now }
-    {
-        self.items.as_slice()
-    }
-
-    /// Puts a kind last. After want of memory the list is as before.
-    pub fn push(&mut self, item: Kind) -> Result<(), AllocError>
-        ensures ok { OnOk result (self.new ≡ self.old ++ item ∷ []) }
-        ensures err { OnErr result (self.new ≡ self.old) }
-    {
-        self.items.push(item)?;
-        Ok(())
-    }
-}
+pub type Kinds = Items<Kind>;
 
 /// How each argument of a format is read, in their order, up to the format's first wrong form: how many arguments it uses,
 /// and which of them are integers. It reads the format once.

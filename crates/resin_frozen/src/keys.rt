@@ -1,6 +1,5 @@
 //! Reading keys and names.
 ghost use Rattle.std.specs.Prelude.{◌≡◌, ◌++◌, ◌∷◌, [], IfOk, OnOk, true, IsTrue, ◌&&◌, nat_le, length};
-ghost use Rattle.resin_value.specs.Under.lstr.Texts.{LONGEST};
 ghost use Rattle.std.specs.List.{list_all, IsDistinct};
 ghost use Rattle.std.specs.Str.{bytes_eq};
 ghost use Rattle.resin_frozen.specs.Policies.{HasFieldNames};
@@ -14,7 +13,7 @@ use crate::rest::Rest;
 use crate::stop::Stop;
 use indexmap::IndexSet;
 use resin_scan::bytes::{begins_name, is_name_byte};
-use resin_value::under::lstr::MAX_LEN;
+use resin_value::under::lstr::LONGEST;
 use resin_value::{Fields, Key, KeyText};
 use std::alloc::{AllocError, Global};
 
@@ -100,7 +99,7 @@ pub(crate) fn read_key(alloc: Global, rest: &mut Rest<'_>, keys: Keys) -> Result
 pub fn is_class(class: &[u8]) -> bool
     ensures { result ≡ (policies.is_name class.now && nat_le (length class.now) LONGEST) }
 {
-    is_name(class) && class.len() <= MAX_LEN
+    is_name(class) && class.len() <= LONGEST
 }
 
 /// Whether fields have names, no two the same, as the fields of an object do.

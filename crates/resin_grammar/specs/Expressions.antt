@@ -3,7 +3,8 @@
 -- lets it. What nests: each bracket, the `{` of a text, and the operand to the right of each operator. `stands` marks
 -- the operators and postfixes that open nothing, to the right of a tree of this height.
 use Rattle.std.specs.Prelude.{ℕ, zero, suc, ◌+◌, ◌-◌, Bool, true, false, not, ◌&&◌, ◌||◌, ◌==◌, nat_le, List, [], ◌∷◌, ◌++◌, Option, Some, None, is_some, is_none}
-use Rattle.resin_form.specs.Form.{Begin, Own, Named, Form, give, andthen, next, maybe, many, After, plain, followed, taken, opens, stands, call}
+use Rattle.resin_form.specs.Form.{Begin, Own, Named, Form, give, next, maybe, many, After, plain, followed, taken, opens, stands, call}
+pub use Rattle.resin_form.specs.InARow.{◌>>=◌, ◌>>◌, either, one_of, or_else}
 use Rattle.resin_lex.specs.declared.token.Token.{Token}
 use Rattle.resin_lex.specs.declared.token.TokenKind.{TokenKind}
 use Rattle.resin_lex.specs.declared.token.TokenKind.TheVariants as k
@@ -34,18 +35,6 @@ Rule A = Form Token Name Value A
 
 abbrev pub Behind : Begin → Type 0 → Type 1
 Behind b A = After Token Name Value b A
-
-infixl 10 ◌>>=◌
-abbrev pub ◌>>=◌ : {A B : Type 0} → Rule B → (B → Rule A) → Rule A
-F >>= G = andthen F G
-
-infixl 10 ◌>>◌
-abbrev pub ◌>>◌ : {A B : Type 0} → Rule B → Rule A → Rule A
-F >> G = andthen F (λ _. G)
-
-abbrev pub either : {A : Type 0} → Bool → Rule A → Rule A → Rule A
-either true F G = F
-either false F G = G
 
 -- one token that stands for itself
 unfoldable pub expects : Sign → Rule (Unit {0})
@@ -248,13 +237,8 @@ member_of_tree e = stands (height e) (plain (a_name >>= named_member e))
 abbrev pub is_postfix : TokenKind → Bool
 is_postfix kind = is_sign s.LeftSquare kind || is_sign s.Arrow kind
 
--- one of two, by whether a bracket stands there
-abbrev pub by_bracket : {A : Type 0} → Bool → Behind Named A → Behind Named A → Behind Named A
-by_bracket true F G = F
-by_bracket false F G = G
-
 unfoldable pub postfix : Expr → TokenKind → Behind Named Expr
-postfix e kind = by_bracket (is_sign s.LeftSquare kind) (index_of_tree e) (member_of_tree e)
+postfix e kind = one_of (is_sign s.LeftSquare kind) (index_of_tree e) (member_of_tree e)
 
 unfoldable pub postfixes : Expr → Rule Expr
 postfixes e = many (λ _ t. is_postfix t.kind) (λ e t. postfix e t.kind) e
@@ -280,7 +264,7 @@ unfoldable pub member_of_target : Place → Behind Named Operand
 member_of_target p = stands (place_height p) (plain (a_name >>= named_of_target p))
 
 unfoldable pub target_postfix : Place → TokenKind → Behind Named Operand
-target_postfix p kind = by_bracket (is_sign s.LeftSquare kind) (index_of_target p) (member_of_target p)
+target_postfix p kind = one_of (is_sign s.LeftSquare kind) (index_of_target p) (member_of_target p)
 
 abbrev pub takes_postfix : Operand → TokenKind → Bool
 takes_postfix (Target p) kind = is_postfix kind
@@ -337,7 +321,7 @@ unfoldable pub step_property : Place → Behind Named Place
 step_property p = stands (place_height p) (plain (a_name >>= λ n. give (at_property p n)))
 
 unfoldable pub step : Place → TokenKind → Behind Named Place
-step p kind = by_bracket (is_sign s.LeftSquare kind) (step_index p) (step_property p)
+step p kind = one_of (is_sign s.LeftSquare kind) (step_index p) (step_property p)
 
 unfoldable pub steps : Place → Rule Place
 steps p = many (λ _ t. is_postfix t.kind) (λ p t. step p t.kind) p
@@ -361,10 +345,6 @@ prefixed (Some (prefix.Unary op)) = unary_of op
 prefixed (Some prefix.Increment) = increment_of
 prefixed (Some prefix.Decrement) = decrement_of
 prefixed None = decrement_of
-
-abbrev pub or_else : Rule Expr → Option Expr → Rule Expr
-or_else F (Some e) = give e
-or_else F None = F
 
 -- behind a token that begins a prefix form: what it gives, as the form before it was none
 abbrev pub given : {b : Begin} → Behind b Expr → Behind b (Option Expr)
@@ -531,7 +511,7 @@ unfoldable pub asked_property : Expr → Behind Named Expr
 asked_property e = stands (height e) (plain (a_name >>= λ n. give (tree.property e n)))
 
 unfoldable pub asked_step : Expr → TokenKind → Behind Named Expr
-asked_step e kind = by_bracket (is_sign s.LeftSquare kind) (index_of_tree e) (asked_property e)
+asked_step e kind = one_of (is_sign s.LeftSquare kind) (index_of_tree e) (asked_property e)
 
 unfoldable pub asked_steps : Expr → Rule Expr
 asked_steps e = many (λ _ t. is_postfix t.kind) (λ e t. asked_step e t.kind) e

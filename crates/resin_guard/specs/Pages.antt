@@ -42,7 +42,8 @@ is_raw w = spells (codes "script") w || spells (codes "style") w
 
 -- the names of attributes whose values are code or addresses
 abbrev pub is_harmful : List ℕ → Bool
-is_harmful w = starts_with nat_eq w (codes "on") || spells (codes "style") w || spells (codes "href") w || spells (codes "src") w || spells (codes "action") w || spells (codes "formaction") w
+is_harmful w =
+    starts_with nat_eq w (codes "on") || spells (codes "style") w || spells (codes "href") w || spells (codes "src") w || spells (codes "action") w || spells (codes "formaction") w
 
 -- ---- stretches
 

@@ -21,7 +21,8 @@ doubled (b ∷ w) = if b == 39 then 39 ∷ 39 ∷ doubled w else b ∷ doubled w
 pub data Requoted : List ℕ → List ℕ → Type 0 where
   done : Requoted [] []
   same : {b : ℕ} {r s : List ℕ} → (b == 39) ≡ false → Requoted r s → Requoted (b ∷ r) (b ∷ s)
-  other : (w v : List ℕ) {r s bs cs : List ℕ} → bs ≡ doubled w ++ 39 ∷ r → cs ≡ doubled v ++ 39 ∷ s → NotBefore (λ b. b == 39) r → Requoted r s → Requoted (39 ∷ bs) (39 ∷ cs)
+  other : (w v : List ℕ) {r s bs cs : List ℕ} → bs ≡ doubled w ++ 39 ∷ r → cs ≡ doubled v ++ 39 ∷ s → NotBefore (λ b. b == 39) r
+      → Requoted r s → Requoted (39 ∷ bs) (39 ∷ cs)
 
 -- ---- a statement without what its text literals hold, and without where its literals stand
 
@@ -59,10 +60,13 @@ shape_of_rows rows = map (λ row. map shape_of_literal row) rows
 abbrev pub shape_of : Stmt → Stmt
 shape_of (s.Create x) = s.Create x
 shape_of (s.Insert x) = s.Insert (record { table = x.table; columns = x.columns; rows = shape_of_rows x.rows })
-shape_of (s.Select x) = s.Select (record { columns = x.columns; table = x.table; condition = shape_of_where x.condition; order = x.order; limit = x.limit })
+shape_of (s.Select x) =
+    s.Select (record { columns = x.columns; table = x.table; condition = shape_of_where x.condition; order = x.order; limit = x.limit })
 shape_of (s.Update x) = s.Update (record { table = x.table; changes = map shape_of_change x.changes; condition = shape_of_where x.condition })
 shape_of (s.Delete x) = s.Delete (record { table = x.table; condition = shape_of_where x.condition })
 
 -- a statement with other texts between its quotes is a statement that differs in text literals alone
 abbrev pub KeepsStatement : (List ℕ → Stmt → Type 0) → Type 0
-KeepsStatement IsStatement = (bytes others : List ℕ) (q : Stmt) → IsStatement bytes q → Requoted bytes others → (p : Stmt) × IsStatement others p × (shape_of p ≡ shape_of q)
+KeepsStatement IsStatement =
+    (bytes others : List ℕ) (q : Stmt) → IsStatement bytes q → Requoted bytes others
+    → (p : Stmt) × IsStatement others p × (shape_of p ≡ shape_of q)

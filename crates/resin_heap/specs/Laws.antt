@@ -25,11 +25,15 @@ IsNothingElse = (t : Table) (c other : ℕ) → parent_of t c ≡ None → is_a 
 
 -- a class's own method goes before its parent's
 abbrev pub OwnMethodsGoFirst : Type 0
-OwnMethodsGoFirst = (t : Table) (c i : ℕ) (name : List ℕ) → find_method (methods_of t c) name ≡ Some i → method_of t c name ≡ Some (record { class = c; index = i })
+OwnMethodsGoFirst =
+    (t : Table) (c i : ℕ) (name : List ℕ) → find_method (methods_of t c) name ≡ Some i
+    → method_of t c name ≡ Some (record { class = c; index = i })
 
 -- a method that a class doesn't declare is that of its parent
 abbrev pub MethodsAreInherited : Type 0
-MethodsAreInherited = (t : Table) (c p : ℕ) (name : List ℕ) → find_method (methods_of t c) name ≡ None → parent_of t c ≡ Some p → method_of t c name ≡ method_of t p name
+MethodsAreInherited =
+    (t : Table) (c p : ℕ) (name : List ℕ) → find_method (methods_of t c) name ≡ None → parent_of t c ≡ Some p
+    → method_of t c name ≡ method_of t p name
 
 -- without a parent there is no other method
 abbrev pub NoOtherMethods : Type 0
@@ -69,7 +73,9 @@ HasItsFields = (objects : List Object) (o : ℕ) (fields : FieldList) → IsObje
 
 -- a change of an object leaves the fields of the others, and all classes
 abbrev pub ChangesOneObject : Type 0
-ChangesOneObject = (objects : List Object) (o other : ℕ) (fields : FieldList) → IsObject objects o → 0 < other → other ≢ o → fields_at (with_fields objects o fields) other ≡ fields_at objects other
+ChangesOneObject =
+    (objects : List Object) (o other : ℕ) (fields : FieldList) → IsObject objects o → 0 < other → other ≢ o
+    → fields_at (with_fields objects o fields) other ≡ fields_at objects other
 
 abbrev pub KeepsClasses : Type 0
 KeepsClasses = (objects : List Object) (o other : ℕ) (fields : FieldList) → class_at (with_fields objects o fields) other ≡ class_at objects other

@@ -18,7 +18,8 @@ use Rattle.resin_heap.specs.Classes.{Table}
 
 abbrev pub all_classes : List PreludeClass
 all_classes =
-    Throwable ∷ Exception ∷ Error ∷ ArithmeticError ∷ TypeError ∷ ValueError ∷ DivisionByZeroError ∷ ArgumentCountError ∷ PolicyException ∷ SqlException ∷ Policy ∷ NoExport ∷ Filter ∷ LostPolicy ∷ []
+    Throwable ∷ Exception ∷ Error ∷ ArithmeticError ∷ TypeError ∷ ValueError ∷ DivisionByZeroError ∷ ArgumentCountError
+    ∷ PolicyException ∷ SqlException ∷ Policy ∷ NoExport ∷ Filter ∷ LostPolicy ∷ []
 
 -- the place of a class in that list
 abbrev pub number_of : PreludeClass → ℕ
@@ -153,7 +154,13 @@ properties_of_class NoExport = []
 properties_of_class Filter = []
 
 abbrev pub declaration_of : PreludeClass → ClassDecl
-declaration_of c = record { line = 0; name = name_of c; parent = option_map name_of (parent_class c); properties = properties_of_class c; methods = map function_of (methods_of_class c) }
+declaration_of c = record {
+  line = 0;
+  name = name_of c;
+  parent = option_map name_of (parent_class c);
+  properties = properties_of_class c;
+  methods = map function_of (methods_of_class c);
+}
 
 -- the declarations of all of them
 abbrev pub prelude : Table

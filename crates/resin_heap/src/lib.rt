@@ -1,5 +1,9 @@
 //! Classes and objects: the classes of the runtime and of scripts by their numbers, with their parents and methods, and the objects of a request
 //! with their fields.
+//!
+//! Contracts see the classes as the list of their declarations (`specs/Classes.antt`), and objects as a class with fields by name
+//! (`specs/Objects.antt`). `Classes` finds a class and a method as PHP does, through the parents; `Heap` keeps every object that was made.
+//! `class_laws` and `object_laws` say what these definitions come to (`specs/Laws.antt`). `specs/Prelude.antt` has the runtime's own classes.
 #![tactic(auto)]
 
 mod class;

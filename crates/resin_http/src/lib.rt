@@ -1,4 +1,9 @@
 //! Requests of a stream, what scripts see of them, and the texts of responses.
+//!
+//! `next_request` says what the front of a stream asks: a request, a refusal, or more bytes (`specs/Stream.antt`, over the grammar of heads in
+//! `specs/Head.antt` and of fields in `specs/Fields.antt`). The answers of a stream do not depend on how it is cut (`answers_grow`), and a `Mark`
+//! keeps how far it was read (`specs/Marks.antt`). `inputs` has what scripts see (`specs/Inputs.antt`), `response_text` what goes out
+//! (`specs/Response.antt`).
 #![tactic(auto)]
 
 mod arrays;

@@ -1,4 +1,5 @@
--- What a journal file can tell: numbers of 64 bits, those of policies and filters of 32 bits, texts of at most 16,777,216 bytes, and classes by names.
+-- What a journal file can tell: numbers of 64 bits, those of policies and filters of 32 bits, texts of at most 16,777,216 bytes, and classes by
+-- names.
 use Rattle.std.specs.Prelude.{◌≡◌, ℕ, ◌<◌, ◌≤◌, ◌^◌, List, [], ◌∷◌, length}
 use Rattle.resin_label.specs.Sets.{numbers}
 use Rattle.resin_lstr.specs.Texts.{Text, LONGEST, sets_of}

@@ -20,7 +20,9 @@ use Rattle.resin_lex.specs.declared.token.Mark.{Mark}
 use Rattle.resin_lex.specs.declared.token.Mark.TheVariants as m
 
 unfoldable pub first_outside : List ℕ → Step
-first_outside xs = if is_echo_tag xs then Token s.EchoTag 3 Leave else (if is_php_tag xs then Skip (5 + blank_len (drop 5 xs)) Leave else Token s.Inline (reach stop.Tag false xs) Stay)
+first_outside xs =
+    if is_echo_tag xs then Token s.EchoTag 3 Leave
+    else (if is_php_tag xs then Skip (5 + blank_len (drop 5 xs)) Leave else Token s.Inline (reach stop.Tag false xs) Stay)
 
 unfoldable pub first_word : List ℕ → Step
 first_word xs = Token s.Word (prefix_len is_name_byte xs) Stay
@@ -30,7 +32,9 @@ int_step n None = Fault
 int_step n (Some v) = Token (s.Int (pos v)) n Stay
 
 unfoldable pub first_number : List ℕ → Step
-first_number xs = let n = prefix_len is_word_byte xs in if byte xs n == 46 && not (is_prefixed (take n xs)) then Fault else int_step n (integer (take n xs))
+first_number xs =
+    let n = prefix_len is_word_byte xs in
+    if byte xs n == 46 && not (is_prefixed (take n xs)) then Fault else int_step n (integer (take n xs))
 
 -- Marks, the longest first
 abbrev pub mark_step : Mark → ℕ → Step
@@ -40,19 +44,25 @@ abbrev pub pair : List ℕ → ℕ → Mark → Mark → Step
 pair xs next long short = if byte xs 1 == next then mark_step long 2 else mark_step short 1
 
 unfoldable pub first_equals : List ℕ → Step
-first_equals xs = if byte xs 1 == 61 then (if byte xs 2 == 61 then mark_step m.Identical 3 else mark_step m.Equal 2) else (if byte xs 1 == 62 then mark_step m.FatArrow 2 else mark_step m.Assign 1)
+first_equals xs =
+    if byte xs 1 == 61 then (if byte xs 2 == 61 then mark_step m.Identical 3 else mark_step m.Equal 2)
+    else (if byte xs 1 == 62 then mark_step m.FatArrow 2 else mark_step m.Assign 1)
 
 unfoldable pub first_bang : List ℕ → Step
 first_bang xs = if byte xs 1 == 61 then (if byte xs 2 == 61 then mark_step m.NotIdentical 3 else mark_step m.NotEqual 2) else mark_step m.Not 1
 
 unfoldable pub first_less : List ℕ → Step
-first_less xs = if byte xs 1 == 61 then (if byte xs 2 == 62 then mark_step m.Compare 3 else mark_step m.LessOrEqual 2) else (if byte xs 1 == 62 then mark_step m.LessGreater 2 else mark_step m.Less 1)
+first_less xs =
+    if byte xs 1 == 61 then (if byte xs 2 == 62 then mark_step m.Compare 3 else mark_step m.LessOrEqual 2)
+    else (if byte xs 1 == 62 then mark_step m.LessGreater 2 else mark_step m.Less 1)
 
 unfoldable pub first_plus : List ℕ → Step
 first_plus xs = if byte xs 1 == 43 then mark_step m.Increment 2 else (if byte xs 1 == 61 then mark_step m.PlusAssign 2 else mark_step m.Plus 1)
 
 unfoldable pub first_minus : List ℕ → Step
-first_minus xs = if byte xs 1 == 45 then mark_step m.Decrement 2 else (if byte xs 1 == 61 then mark_step m.MinusAssign 2 else (if byte xs 1 == 62 then mark_step m.Arrow 2 else mark_step m.Minus 1))
+first_minus xs =
+    if byte xs 1 == 45 then mark_step m.Decrement 2
+    else (if byte xs 1 == 61 then mark_step m.MinusAssign 2 else (if byte xs 1 == 62 then mark_step m.Arrow 2 else mark_step m.Minus 1))
 
 unfoldable pub first_dot : List ℕ → Step
 first_dot xs = if is_digit (byte xs 1) then Fault else pair xs 61 m.DotAssign m.Dot
@@ -61,7 +71,9 @@ unfoldable pub first_and : List ℕ → Step
 first_and xs = if byte xs 1 == 38 then mark_step m.And 2 else Fault
 
 unfoldable pub first_question : List ℕ → Step
-first_question xs = if byte xs 1 == 63 then (if byte xs 2 == 61 then mark_step m.CoalesceAssign 3 else mark_step m.Coalesce 2) else mark_step m.Question 1
+first_question xs =
+    if byte xs 1 == 63 then (if byte xs 2 == 61 then mark_step m.CoalesceAssign 3 else mark_step m.Coalesce 2)
+    else mark_step m.Question 1
 
 unfoldable pub first_operator : List ℕ → Step
 first_operator xs = let a = byte xs 0 in
@@ -104,7 +116,9 @@ unfoldable pub block_comment : List ℕ → Step
 block_comment xs = let n = reach stop.Comment false (drop 2 xs) in if byte xs (3 + n) == 47 then Skip (4 + n) Stay else Fault
 
 unfoldable pub first_slash : List ℕ → Step
-first_slash xs = if byte xs 1 == 47 then comment xs else (if byte xs 1 == 42 then block_comment xs else (if byte xs 1 == 61 then mark_step m.SlashAssign 2 else mark_step m.Slash 1))
+first_slash xs =
+    if byte xs 1 == 47 then comment xs
+    else (if byte xs 1 == 42 then block_comment xs else (if byte xs 1 == 61 then mark_step m.SlashAssign 2 else mark_step m.Slash 1))
 
 unfoldable pub first_tag_or_question : List ℕ → Step
 first_tag_or_question xs = if byte xs 1 == 62 then Token (s.Mark m.Semicolon) (2 + newline_len (drop 2 xs)) (Enter Outside) else first_question xs
@@ -114,7 +128,9 @@ unfoldable pub first_single : List ℕ → Step
 first_single xs = let n = reach stop.Single false (drop 1 xs) in if byte xs (1 + n) == 39 then Token s.Single (2 + n) Stay else Fault
 
 unfoldable pub first_double : ℕ → List ℕ → Step
-first_double at xs = let n = reach stop.Part false (drop 1 xs) in if byte xs (1 + n) == 34 then Token s.Double (2 + n) Stay else Token s.Opening 1 (Enter (Quote at))
+first_double at xs =
+    let n = reach stop.Part false (drop 1 xs) in
+    if byte xs (1 + n) == 34 then Token s.Double (2 + n) Stay else Token s.Opening 1 (Enter (Quote at))
 
 unfoldable pub first_variable : List ℕ → Step
 first_variable xs = if begins_name (byte xs 1) then Token s.Variable (1 + prefix_len is_name_byte (drop 1 xs)) Stay else Fault
@@ -139,7 +155,9 @@ first_in_code at xs = let b = byte xs 0 in
 
 -- Inside double quotes
 abbrev pub opened_behind : ℕ → List ℕ → Act
-opened_behind place xs = if byte xs 0 == 91 then Enter (Index place) else (if byte xs 0 == 45 && (byte xs 1 == 62 && begins_name (byte xs 2)) then Enter (Property place) else Stay)
+opened_behind place xs =
+    if byte xs 0 == 91 then Enter (Index place)
+    else (if byte xs 0 == 45 && (byte xs 1 == 62 && begins_name (byte xs 2)) then Enter (Property place) else Stay)
 
 unfoldable pub quoted_variable : ℕ → List ℕ → Step
 quoted_variable place xs = let n = 1 + prefix_len is_name_byte (drop 1 xs) in Token s.Variable n (opened_behind place (drop n xs))
@@ -162,10 +180,13 @@ key_len xs = let a = byte xs 0 in
     (if a == 36 && begins_name (byte xs 1) then 1 + prefix_len is_name_byte (drop 1 xs) else 0)))
 
 unfoldable pub first_index : List ℕ → Step
-first_index xs = let n = key_len (drop 1 xs) in if byte xs 0 == 91 then (if n == 0 then Fault else (if byte xs (1 + n) == 93 then Token s.Index (2 + n) Leave else Fault)) else Fault
+first_index xs =
+    let n = key_len (drop 1 xs) in
+    if byte xs 0 == 91 then (if n == 0 then Fault else (if byte xs (1 + n) == 93 then Token s.Index (2 + n) Leave else Fault)) else Fault
 
 unfoldable pub first_property : List ℕ → Step
-first_property xs = if byte xs 0 == 45 && (byte xs 1 == 62 && begins_name (byte xs 2)) then Token s.Property (2 + prefix_len is_name_byte (drop 2 xs)) Leave else Fault
+first_property xs =
+    if byte xs 0 == 45 && (byte xs 1 == 62 && begins_name (byte xs 2)) then Token s.Property (2 + prefix_len is_name_byte (drop 2 xs)) Leave else Fault
 
 abbrev pub first : Option Open → ℕ → List ℕ → Step
 first None at xs = first_in_code at xs

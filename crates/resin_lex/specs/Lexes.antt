@@ -20,8 +20,13 @@ NothingStands o at xs = (what : Option TokenKind) (act : Act) (w rest : List ℕ
 -- its end or its first fault. A text that ends inside quotes has its fault at the innermost open quote.
 pub data Lexes : List Open → ℕ → List ℕ → List t.Token → Option ℕ → Type 0 where
   ends : {os : List Open} {at : ℕ} → Lexes os at [] [] (innermost os)
-  token : {os : List Open} {at : ℕ} {xs : List ℕ} {tokens : List t.Token} {fault : Option ℕ} → (kind : TokenKind) (act : Act) (w rest : List ℕ) → xs ≡ w ++ rest → Stands (top os) at (Some kind) act w rest → Lexes (after act os) (at + length w) rest tokens fault → Lexes os at xs (record { kind = kind; from = at; to = at + length w } ∷ tokens) fault
-  blank : {os : List Open} {at : ℕ} {xs : List ℕ} {tokens : List t.Token} {fault : Option ℕ} → (act : Act) (w rest : List ℕ) → xs ≡ w ++ rest → Stands (top os) at None act w rest → Lexes (after act os) (at + length w) rest tokens fault → Lexes os at xs tokens fault
+  token : {os : List Open} {at : ℕ} {xs : List ℕ} {tokens : List t.Token} {fault : Option ℕ}
+      → (kind : TokenKind) (act : Act) (w rest : List ℕ) → xs ≡ w ++ rest → Stands (top os) at (Some kind) act w rest
+      → Lexes (after act os) (at + length w) rest tokens fault
+      → Lexes os at xs (record { kind = kind; from = at; to = at + length w } ∷ tokens) fault
+  blank : {os : List Open} {at : ℕ} {xs : List ℕ} {tokens : List t.Token} {fault : Option ℕ} → (act : Act) (w rest : List ℕ)
+      → xs ≡ w ++ rest → Stands (top os) at None act w rest → Lexes (after act os) (at + length w) rest tokens fault
+      → Lexes os at xs tokens fault
   fails : {os : List Open} {at : ℕ} {xs : List ℕ} → xs ≢ [] → NothingStands (top os) at xs → Lexes os at xs [] (Some (blamed (top os) at))
 
 -- A whole text begins outside code.

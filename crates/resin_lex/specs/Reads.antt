@@ -17,6 +17,9 @@ token_of shape from to w = record { kind = kind_of shape w; from = from; to = to
 -- tokens, up to its end or the first fault.
 pub data Reads : List Open → ℕ → List ℕ → List t.Token → Option ℕ → Type 0 where
   ends : {os : List Open} {at : ℕ} → Reads os at [] [] (innermost os)
-  token : {os : List Open} {at n : ℕ} {shape : Shape} {act : Act} {xs : List ℕ} {tokens : List t.Token} {fault : Option ℕ} → xs ≢ [] → first (top os) at xs ≡ Token shape n act → Reads (after act os) (at + n) (drop n xs) tokens fault → Reads os at xs (token_of shape at (at + n) (take n xs) ∷ tokens) fault
-  skip : {os : List Open} {at n : ℕ} {act : Act} {xs : List ℕ} {tokens : List t.Token} {fault : Option ℕ} → xs ≢ [] → first (top os) at xs ≡ Skip n act → Reads (after act os) (at + n) (drop n xs) tokens fault → Reads os at xs tokens fault
+  token : {os : List Open} {at n : ℕ} {shape : Shape} {act : Act} {xs : List ℕ} {tokens : List t.Token} {fault : Option ℕ} → xs ≢ []
+      → first (top os) at xs ≡ Token shape n act → Reads (after act os) (at + n) (drop n xs) tokens fault
+      → Reads os at xs (token_of shape at (at + n) (take n xs) ∷ tokens) fault
+  skip : {os : List Open} {at n : ℕ} {act : Act} {xs : List ℕ} {tokens : List t.Token} {fault : Option ℕ} → xs ≢ []
+      → first (top os) at xs ≡ Skip n act → Reads (after act os) (at + n) (drop n xs) tokens fault → Reads os at xs tokens fault
   fails : {os : List Open} {at : ℕ} {xs : List ℕ} → xs ≢ [] → first (top os) at xs ≡ Fault → Reads os at xs [] (Some (blamed (top os) at))

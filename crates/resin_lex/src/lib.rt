@@ -1,4 +1,8 @@
 //! The lexer of the language: the tokens of a source text and their lines. The tree types are passed on from `resin_tree`.
+//!
+//! `specs/Grammar.antt` is the lexical grammar, as a relation: what may stand at the front of a text and what may follow; `specs/Marks.antt` has
+//! the operators and brackets. `tokens` gives the tokens of a text exactly where it has them, and otherwise the place of its first lexical fault
+//! (`specs/Lexes.antt`); `one_reading` says that a text is read in one way. `specs/Lines.antt` says in which line a place stands.
 #![tactic(auto)]
 
 pub mod front;

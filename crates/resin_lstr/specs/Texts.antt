@@ -2,6 +2,8 @@
 use Rattle.std.specs.Prelude.{ℕ, ◌+◌, ◌-◌, ◌≤◌, Bool, not, nat_eq, List, [], ◌∷◌, ◌++◌, map, take, drop, slice_index, Option, option_map, position}
 use Rattle.std.specs.List.{filter, flat_map, prefix_len}
 use Rattle.std.specs.Coded.{Coded, coded×, coded_ℕ, coded_list}
+-- the length of the longest text
+pub use Rattle.resin_lstr.specs.declared.limits.TheConstants.{LONGEST}
 use Rattle.resin_label.specs.Sets.{NumberSet, set_code, contains, insert, remove, numbers, same}
 
 abbrev pub Text : Type 0
@@ -9,10 +11,6 @@ Text = List (ℕ × NumberSet)
 
 abbrev pub text_code : Coded Text
 text_code = coded_list (coded× coded_ℕ set_code)
-
--- the length of the longest text
-abbrev pub LONGEST : ℕ
-LONGEST = 16777216
 
 abbrev pub bytes_of : Text → List ℕ
 bytes_of t = map (λ p. p.0) t

@@ -1,13 +1,14 @@
 //! Texts made piece by piece.
 ghost use Rattle.std.specs.Prelude.{◌≡◌, ◌==◌, ℕ, ◌+◌, ◌-◌, ◌≤◌, ◌++◌, [], length, take, drop, slice_range, IfOk};
-ghost use Rattle.resin_lstr.specs.Texts.{LONGEST, carrying};
+ghost use Rattle.resin_lstr.specs.Texts.{carrying};
 ghost use Rattle.resin_lstr.specs.Tables.{replacement};
 ghost use Rattle.resin_lstr.specs.Faults.{GivesText};
 ghost use Rattle.std.specs.List.{flat_map};
 
+use crate::limits::LONGEST;
 use crate::runs::{append_runs, push_run};
 use crate::table::ByteTable;
-use crate::text::{LText, MAX_LEN, Run, TextFault};
+use crate::text::{LText, Run, TextFault};
 use resin_label::PSet;
 use std::alloc::{AllocError, Global};
 use std::marker::Model;
@@ -76,7 +77,7 @@ impl Builder {
         requires within { to ≤ length t.now }
         ensures { GivesText result (self ++ slice_range t.now from to) }
     {
-        if to - from > MAX_LEN - self.len() {
+        if to - from > LONGEST - self.len() {
             return Err(TextFault::TooLong);
         }
         Ok(self.add_part(t, from, to)?)
@@ -86,7 +87,7 @@ impl Builder {
     pub fn append_bytes(self, bytes: &[u8], set: &PSet) -> Result<Builder, TextFault>
         ensures { GivesText result (self ++ carrying set.now bytes.now) }
     {
-        if bytes.len() > MAX_LEN - self.len() {
+        if bytes.len() > LONGEST - self.len() {
             return Err(TextFault::TooLong);
         }
         Ok(self.add_bytes(bytes, set)?)

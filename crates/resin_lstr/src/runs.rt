@@ -7,6 +7,7 @@ ghost use Rattle.resin_lstr.specs.declared.text.Run.{Run};
 ghost use Rattle.resin_lstr.specs.Texts.{LONGEST, distinct, first_range};
 ghost use Rattle.resin_lstr.specs.Runs.{spell, last_end, IsCoalesced, EndsWith};
 
+use crate::lists::{Numbers, Sets};
 use crate::text::Run;
 use indexmap::IndexSet;
 use resin_label::PSet;
@@ -168,15 +169,26 @@ pub(crate) fn range_holding(runs: &[Run], n: u32) -> Option<(usize, usize)>
 }
 
 // The sets of the runs, each once.
-pub(crate) fn sets_once(alloc: Global, runs: &[Run]) -> Result<Vec<PSet>, AllocError>
+pub(crate) fn sets_once(alloc: Global, runs: &[Run]) -> Result<Sets, AllocError>
     requires { IsCoalesced 0 runs.now }
-    ensures { IfOk result (λ v. v.items ≡ distinct same (spell 0 runs.now)) }
+    ensures { IfOk result (λ sets. sets ≡ distinct same (spell 0 runs.now)) }
 {
     let mut seen = IndexSet::new(alloc);
     for run in runs {
         seen.insert(run.set.clone()?)?;
     }
-    Vec::from_clones(alloc, seen.as_slice())
+    list_of_sets(alloc, seen.as_slice())
+}
+
+// A list of these sets.
+fn list_of_sets(alloc: Global, sets: &[PSet]) -> Result<Sets, AllocError>
+    ensures { IfOk result (λ list. list ≡ sets.now) }
+{
+    let mut list = Sets::new(alloc);
+    for set in sets {
+        list.push(set.clone()?)?;
+    }
+    Ok(list)
 }
 
 // Inserts each of the numbers.
@@ -190,13 +202,24 @@ fn insert_all(seen: &mut IndexSet<u32>, more: &[u32]) -> Result<(), AllocError>
 }
 
 // The numbers of the runs' sets, each once.
-pub(crate) fn numbers_once(alloc: Global, runs: &[Run]) -> Result<Vec<u32>, AllocError>
+pub(crate) fn numbers_once(alloc: Global, runs: &[Run]) -> Result<Numbers, AllocError>
     requires { IsCoalesced 0 runs.now }
-    ensures { IfOk result (λ v. v.items ≡ distinct nat_eq (flat_map numbers (spell 0 runs.now))) }
+    ensures { IfOk result (λ list. list ≡ distinct nat_eq (flat_map numbers (spell 0 runs.now))) }
 {
     let mut seen = IndexSet::new(alloc);
     for run in runs {
         insert_all(&mut seen, run.set.as_slice())?;
     }
-    Vec::from_slice(alloc, seen.as_slice())
+    list_of_numbers(alloc, seen.as_slice())
+}
+
+// A list of these numbers.
+fn list_of_numbers(alloc: Global, numbers: &[u32]) -> Result<Numbers, AllocError>
+    ensures { IfOk result (λ list. list ≡ numbers.now) }
+{
+    let mut list = Numbers::new(alloc);
+    for n in numbers {
+        list.push(*n)?;
+    }
+    Ok(list)
 }

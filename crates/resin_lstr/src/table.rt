@@ -1,10 +1,10 @@
 //! Tables from bytes to the bytes that replace them.
 ghost use Rattle.std.specs.Prelude.{◌≡◌, ℕ, ◌<◌, ◌≤◌, ◌++◌, length, slice_set, IfOk, OnOk, OnErr};
 ghost use Rattle.resin_lstr.specs.Tables.{identity, replacement};
-ghost use Rattle.resin_lstr.specs.Texts.{LONGEST};
 ghost use Rattle.std.specs.List.{flat_map};
 
-use crate::text::{MAX_LEN, TextFault};
+use crate::limits::LONGEST;
+use crate::text::TextFault;
 use resin_bytes::Bytes;
 use std::alloc::{AllocError, Global};
 use std::marker::Model;
@@ -71,7 +71,7 @@ impl ByteTable {
     {
         for byte in bytes {
             self.push_row(out, *byte)?;
-            if out.len() > MAX_LEN {
+            if out.len() > LONGEST {
                 return Err(TextFault::TooLong);
             }
         }

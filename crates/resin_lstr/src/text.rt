@@ -1,11 +1,12 @@
 //! Labelled texts.
 ghost use Rattle.std.specs.Prelude.{◌≡◌, ◌==◌, ℕ, ◌-◌, ◌<◌, ◌≤◌, ◌++◌, length, map, slice_index, slice_index_or, slice_range, IfOk};
 ghost use Rattle.resin_label.specs.Sets.{empty};
-ghost use Rattle.resin_lstr.specs.Texts.{LONGEST, bytes_of, sets_of, carrying, marked, unmarked, mapped, with_parts, ArePartsFrom, distinct_sets, policies_in_order, first_run};
+ghost use Rattle.resin_lstr.specs.Texts.{bytes_of, sets_of, carrying, marked, unmarked, mapped, with_parts, ArePartsFrom, distinct_sets, policies_in_order, first_run};
 ghost use Rattle.resin_lstr.specs.Tables.{replaced};
 ghost use Rattle.resin_lstr.specs.Faults.{GivesText};
 
 use crate::builder::Builder;
+use crate::limits::LONGEST;
 use crate::lists::{Numbers, Parts, Sets};
 use crate::replace::replace_each;
 use crate::runs::{numbers_once, range_holding, run_at, runs_with, runs_without, sets_once};
@@ -14,9 +15,6 @@ use resin_label::PSet;
 use std::alloc::{AllocError, Global};
 use std::marker::Model;
 use std::rc::RcSlice;
-
-/// The length of the longest text, in bytes.
-pub const MAX_LEN: usize = 16_777_216;
 
 /// Why a call gives no text.
 #[derive(Clone, Copy, Debug, PartialEq, Eq)]
@@ -83,7 +81,7 @@ impl LText {
     pub fn with_set(alloc: Global, b: &[u8], s: &PSet) -> Result<LText, TextFault>
         ensures { GivesText result (carrying s.now b.now) }
     {
-        if b.len() > MAX_LEN {
+        if b.len() > LONGEST {
             return Err(TextFault::TooLong);
         }
         let out = Builder::new(alloc).add_bytes(b, s)?;
@@ -222,14 +220,14 @@ impl LText {
     pub fn distinct_sets(&self, alloc: Global) -> Result<Sets, AllocError>
         ensures { IfOk result (λ sets. sets ≡ distinct_sets self.now) }
     {
-        Ok(Sets::from_vec(sets_once(alloc, &self.runs)?))
+        sets_once(alloc, &self.runs)
     }
 
     /// The policies of the text, each once, by the first byte that carries them and then by number.
     pub fn policies_in_order(&self, alloc: Global) -> Result<Numbers, AllocError>
         ensures { IfOk result (λ list. list ≡ policies_in_order self.now) }
     {
-        Ok(Numbers::from_vec(numbers_once(alloc, &self.runs)?))
+        numbers_once(alloc, &self.runs)
     }
 
     /// The first maximal range of bytes that carry `n`, as its start and its end, which is not included. `None` where no

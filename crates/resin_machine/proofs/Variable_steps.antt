@@ -57,7 +57,7 @@ assigned_other name v m m0 frames e0 i e =
     subst (λ (x : State). Acts (assign name v) x (Ok tt) (record m0 { frames = frames })) e0
     (gives_inside (assign name v) m0 tt _ (ap (λ (x : State). let p : Result (Unit {0}) Stop × State = (Ok tt, x) in p) (sym (other_changed name v m0 frames i e))) (frames_inside m0 frames (open_of name v m0 frames e)))
 
--- a variable that is there, put back or taken
+-- a variable that is there, changed in its place
 pub put_input : (name : List ℕ) (v : Value) (m m0 : State) (inputs : Variables) → m0 ≡ m → is_input name ≡ true → inputs ≡ insert m0.inputs name v → ((record m0 { inputs = inputs }) ≡ with_variable name v m) × IsInside m (record m0 { inputs = inputs })
 put_input name v m m0 inputs e0 i e = (
   input_changed name v m0 inputs i e ∙ ap (with_variable name v) e0,

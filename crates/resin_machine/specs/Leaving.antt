@@ -33,7 +33,8 @@ draw m =
 
 -- the class of an object, as its name was declared; that of no object is Throwable, of which none is made
 abbrev pub class_name_of : ℕ → State → List ℕ
-class_name_of o m = if is_object m.heap o then unwrap_or (slice_get (class_names m.classes) (class_at m.heap o)) (name_of Throwable) else name_of Throwable
+class_name_of o m =
+    if is_object m.heap o then unwrap_or (slice_get (class_names m.classes) (class_at m.heap o)) (name_of Throwable) else name_of Throwable
 
 -- an event comes
 abbrev pub note : Event → Act (Unit {0})

@@ -213,7 +213,8 @@ impl Machine {
         Ok(Some(text.finish()?))
     }
 
-    /// Puts a text into the innermost output buffer, of which one must be open. TextTooLong comes exactly where that buffer would pass 16,777,216 bytes.
+    /// Puts a text into the innermost output buffer, of which one must be open. TextTooLong comes exactly where that buffer would pass 16,777,216
+    /// bytes.
     pub fn buffer(&mut self, text: &LText) -> Result<(), Stop>
         requires { 0 < length self.old.stage.buffers }
         ensures acts { ActsLoosely (buffer text.now) self.old result self.new }

@@ -170,13 +170,6 @@ impl Machine {
         self.line
     }
 
-    /// Whether a check, a merge or a filter runs that the runtime called.
-    pub fn is_checking(&self) -> bool
-        ensures { result ≡ self.now.checking }
-    {
-        self.checking
-    }
-
     /// A script fault at the running line.
     pub fn fault(&self, fault: ScriptFault) -> Stop
         ensures { result ≡ Stop.Fault fault self.now.line }

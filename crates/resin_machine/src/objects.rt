@@ -55,8 +55,8 @@ impl Machine {
         Ok(f.clone()?)
     }
 
-    /// Declares a class. FuelSpent comes exactly where there are 4,294,967,295 classes, else Redeclared where a class has its name, else UndefinedClass
-    /// where its parent isn't there. A declaration with 4,294,967,295 methods or more finds no memory.
+    /// Declares a class. FuelSpent comes exactly where there are 4,294,967,295 classes, else Redeclared where a class has its name, else
+    /// UndefinedClass where its parent isn't there. A declaration with 4,294,967,295 methods or more finds no memory.
     pub fn declare_class(&mut self, d: &ClassDecl) -> Result<(), Stop>
         ensures acts { Acts (declare_class d.now) self.old result self.new }
     {

@@ -30,8 +30,8 @@ fn class_of_error(kind: ErrorKind) -> PreludeClass
 }
 
 impl Machine {
-    /// Throws a new exception of a class of the runtime, with a message and the code 0. FuelSpent comes in its place exactly where no object number is
-    /// left.
+    /// Throws a new exception of a class of the runtime, with a message and the code 0. FuelSpent comes in its place exactly where no object
+    /// number is left.
     pub fn throw<T>(&mut self, class: PreludeClass, message: &[u8]) -> Result<T, Stop>
         ensures acts { ActsLoosely (throw_new class message.now) self.old result self.new }
     {

@@ -1,11 +1,11 @@
 //! Variables and calls.
-ghost use Rattle.std.specs.Prelude.{◌≡◌, ◌<◌, length, unwrap_or, Err, IfOk, OnErr, IsSome};
+ghost use Rattle.std.specs.Prelude.{◌≡◌, ◌<◌, length, unwrap_or, Err, IfOk, OnErr};
 ghost use Rattle.std.specs.Option.{option_copied};
 ghost use Rattle.resin_heap.specs.Under.value.declared.value.Value.{Value as AnyValue};
 ghost use Rattle.resin_stage.specs.Under.scope.Frames.{left};
 ghost use Rattle.resin_machine.specs.Keeping.{IsInside};
 ghost use Rattle.resin_machine.specs.Steps.{Acts};
-ghost use Rattle.resin_machine.specs.Variables.{is_input, variable, with_variable, read, assign, taken_from, without_variable, bind_global, in_call};
+ghost use Rattle.resin_machine.specs.Variables.{is_input, variable, read, assign, taken_from, without_variable, bind_global, in_call};
 
 use crate::machine::Machine;
 use crate::stop::Stop;
@@ -69,19 +69,6 @@ impl Machine {
             return self.inputs.exchange(name, Value::Null);
         }
         self.scopes.exchange(name, Value::Null)
-    }
-
-    /// Gives a variable that is there a value. It takes no memory.
-    pub fn put_back(&mut self, name: &[u8], v: Value)
-        requires { IsSome (variable name.now self.old) }
-        ensures after { self.new ≡ with_variable name.now v self.old }
-        ensures inside { IsInside self.old self.new }
-    {
-        if is_input(name) {
-            let _null = self.inputs.exchange(name, v);
-            return;
-        }
-        let _null = self.scopes.exchange(name, v);
     }
 
     /// Takes a variable out. Of a name that `global` bound in the innermost call the binding ends alone. It takes no memory.

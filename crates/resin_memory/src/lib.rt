@@ -1,5 +1,8 @@
 //! The outside in memory, for tests and for runs that touch no file: sources, sinks and keepers that tell what they hold.
-//! Calm ones never fail; fake ones fail at the calls that a list names, and move at most a chunk at a call.
+//!
+//! Calm ones never fail; fake ones fail at the calls that a list names, and move at most a chunk at a call. Each meets its trait of `resin_base`
+//! with all contents told, so that what is promised of a run over any outside can be seen of these. `specs/Fakes.antt` says what they are seen as,
+//! and `specs/Tallies.antt` which calls fail. Names and paths are looked up by walking.
 #![tactic(auto)]
 
 mod byte_queue;

@@ -5,8 +5,8 @@ ghost use Rattle.resin_ops.specs.Arithmetic.{arith_of, even_quotient};
 use crate::operator::Arith;
 use resin_value::under::scalar::{CallStop, ErrorKind, ScriptFault};
 
-/// The answer of an operator on two integers of 64 bits. `IntegerOverflow` comes exactly where the exact answer is outside 64 bits, `FloatNeeded` exactly
-/// where `/` leaves a remainder, `DivisionByZeroError` exactly for `/` and `%` by 0. `%` has the sign of its left side.
+/// The answer of an operator on two integers of 64 bits. `IntegerOverflow` comes exactly where the exact answer is outside 64 bits, `FloatNeeded`
+/// exactly where `/` leaves a remainder, `DivisionByZeroError` exactly for `/` and `%` by 0. `%` has the sign of its left side.
 pub fn arith(op: Arith, a: i64, b: i64) -> Result<i64, CallStop>
     ensures { result ≡ arith_of op a b }
 {

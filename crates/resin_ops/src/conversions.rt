@@ -11,8 +11,8 @@ use resin_value::under::scalar::{CallStop, ScriptFault, cast_int, number};
 use resin_value::{Key, KeyText, Value};
 use std::alloc::Global;
 
-/// The value as a text: true is `1`, null and false are empty, an integer is its decimal digits, each with the integer's labels, and a text is itself.
-/// `BadOperand` comes exactly for an array or an object.
+/// The value as a text: true is `1`, null and false are empty, an integer is its decimal digits, each with the integer's labels, and a text is
+/// itself. `BadOperand` comes exactly for an array or an object.
 pub fn to_text(alloc: Global, v: &Value) -> Result<LText, CallStop>
     ensures { Gives result (text_of (tree_of v.now)) }
 {
@@ -49,7 +49,8 @@ pub fn to_number(v: &Value) -> Result<i64, ScriptFault>
     }
 }
 
-/// The value by the cast `(int)`. `FloatNeeded` comes exactly for a text that begins with a float form, `BadOperand` exactly for an array or an object.
+/// The value by the cast `(int)`. `FloatNeeded` comes exactly for a text that begins with a float form, `BadOperand` exactly for an array or an
+/// object.
 pub fn to_int(v: &Value) -> Result<i64, ScriptFault>
     ensures { result ≡ int_of_value (tree_of v.now) }
 {
@@ -59,8 +60,8 @@ pub fn to_int(v: &Value) -> Result<i64, ScriptFault>
     }
 }
 
-/// The value as the key of an array: a text that is a canonical decimal in range is that integer, true and false are 1 and 0, and null is the empty text.
-/// `BadOperand` comes exactly for an array or an object. The key may stand in an array.
+/// The value as the key of an array: a text that is a canonical decimal in range is that integer, true and false are 1 and 0, and null is the
+/// empty text. `BadOperand` comes exactly for an array or an object. The key may stand in an array.
 pub fn to_key(alloc: Global, v: &Value) -> Result<Key, CallStop>
     ensures value { Gives result (key_of (tree_of v.now)) }
     ensures lawful { IfOk result (λ key. IsTrue (is_lawful key)) }

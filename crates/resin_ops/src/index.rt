@@ -8,8 +8,8 @@ use resin_value::under::scalar::{CallStop, ScriptFault};
 use resin_value::{Key, Value};
 use std::alloc::Global;
 
-/// `$s[i]` on a text: the byte at the index with its labels, from the end where the index is negative, null out of range. `BadOperand` comes exactly for a
-/// key that is a text.
+/// `$s[i]` on a text: the byte at the index with its labels, from the end where the index is negative, null out of range. `BadOperand` comes
+/// exactly for a key that is a text.
 pub fn index_text(alloc: Global, t: &LText, k: &Key) -> Result<Value, CallStop>
     ensures { Gives (seen_answer result) (indexed k.now t.now) }
 {

@@ -1,26 +1,31 @@
-//! Asks keepers, sources, sinks, requests and traces, one row a line, and prints what they answer. Fields stand between `|`. The first one is the kind of the row, with
-//! words behind it where it has some; in the others `\n`, `\r`, `\t`, `\s` for a space, `\\` and `\xhh` stand for a byte, and bytes are printed so too. A line that begins with
-//! `#` is printed as it is. The kinds are:
+//! Asks keepers, sources, sinks, requests and traces, one row a line, and prints what they answer. Fields stand between `|`. The first one is the
+//! kind of the row, with words behind it where it has some; in the others `\n`, `\r`, `\t`, `\s` for a space, `\\` and `\xhh` stand for a byte,
+//! and bytes are printed so too. A line that begins with `#` is printed as it is. The kinds are:
 //!
-//! - `calm_files`, `fake_files N ..`, `folder NAME`: a keeper of files; the fake one's Nth call fails. Each field is a call: `read PATH`, `exists PATH`, `remove PATH`,
-//!   `write PATH BYTES SHADOW`. Behind `numbered` it is the first call of a run, and what is printed is how many calls the run counts and lists as failed. `get PATH` and
-//!   `put PATH BYTES SHADOW` are no calls.
-//! - `calm_tables`, `fake_tables N ..`: a keeper of tables with one column `a`. The calls are `create TABLE`, `insert TABLE TEXT`, `update TABLE ROW TEXT`,
-//!   `delete TABLE ROW`, `columns TABLE` and `rows TABLE`; `table TABLE` and `put TABLE` are none.
-//! - `calm_source`, `fake_source CHUNK N ..`, `std_source`: the bytes of a source, the length of a buffer of zeros, and `take`, or `buffer`, which prints the buffer.
+//! - `calm_files`, `fake_files N ..`, `folder NAME`: a keeper of files; the fake one's Nth call fails. Each field is a call: `read PATH`, `exists
+//!   PATH`, `remove PATH`, `write PATH BYTES SHADOW`. Behind `numbered` it is the first call of a run, and what is printed is how many calls the
+//!   run counts and lists as failed. `get PATH` and `put PATH BYTES SHADOW` are no calls.
+//! - `calm_tables`, `fake_tables N ..`: a keeper of tables with one column `a`. The calls are `create TABLE`, `insert TABLE TEXT`, `update TABLE
+//!   ROW TEXT`, `delete TABLE ROW`, `columns TABLE` and `rows TABLE`; `table TABLE` and `put TABLE` are none.
+//! - `calm_source`, `fake_source CHUNK N ..`, `std_source`: the bytes of a source, the length of a buffer of zeros, and `take`, or `buffer`,
+//!   which prints the buffer.
 //! - `calm_sink`, `fake_sink CHUNK N ..`, `std_sink ROOM`: pieces that a sink is given. What it took is printed last.
-//! - `head`, `mark`, `request`, `inputs`: a stream, and maybe how often the next field is repeated behind it, that field, and an end. Printed is what the front of the
-//!   stream asks; with the mark that is left; the parts of the request; its input arrays.
+//! - `head`, `mark`, `request`, `inputs`: a stream, and maybe how often the next field is repeated behind it, that field, and an end. Printed is
+//!   what the front of the stream asks; with the mark that is left; the parts of the request; its input arrays.
 //! - `response`, `response to_head`: a status, the type, the body, and a header's name and value.
-//! - `get`, `post`, `cookie`, `server`: a method, a target, a body, and names and values of header fields. That input array of the request is printed.
-//! - `trace`, `trace_singly`: a trace that is fed at once or byte by byte. Printed is how it ends, its records with what stands behind them, and how it ends once more.
-//! - `slow_piece N`, `late N`, `endless N`: a piece of N bytes that comes byte by byte, a record that comes N times before one is handed out, and one that is handed out
-//!   each time, and then comes once more.
-//! - `connections`: the steps `add CONNECTION BYTES`, `used CONNECTION COUNT`, `refuse CONNECTION`, `end CONNECTION`, and `stream CONNECTION`, which prints what waits.
-//! - `long_stream N`, `drained COUNT LENGTH LEFT`: 2N bytes of a connection that are taken one by one, and so many connections, each of which is left so many bytes.
+//! - `get`, `post`, `cookie`, `server`: a method, a target, a body, and names and values of header fields. That input array of the request is
+//!   printed.
+//! - `trace`, `trace_singly`: a trace that is fed at once or byte by byte. Printed is how it ends, its records with what stands behind them, and
+//!   how it ends once more.
+//! - `slow_piece N`, `late N`, `endless N`: a piece of N bytes that comes byte by byte, a record that comes N times before one is handed out, and
+//!   one that is handed out each time, and then comes once more.
+//! - `connections`: the steps `add CONNECTION BYTES`, `used CONNECTION COUNT`, `refuse CONNECTION`, `end CONNECTION`, and `stream CONNECTION`,
+//!   which prints what waits.
+//! - `long_stream N`, `drained COUNT LENGTH LEFT`: 2N bytes of a connection that are taken one by one, and so many connections, each of which is
+//!   left so many bytes.
 //!
-//! The answers come from RFC 9112, the documentation of httparse, the PHP manual's pages on input arrays, and by hand from the formats of traces and the rules for
-//! keepers, sources and sinks.
+//! The answers come from RFC 9112, the documentation of httparse, the PHP manual's pages on input arrays, and by hand from the formats of traces
+//! and the rules for keepers, sources and sinks.
 #![tactic(auto)]
 
 mod arrays;

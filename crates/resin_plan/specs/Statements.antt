@@ -123,7 +123,8 @@ changed_names u = map (λ (c : Change). c.column) u.changes
 -- the values of the changes stand before those of the condition
 abbrev pub update_cause : Update → List StoredCell → List Column → List (List ℕ) → Option SqlRefusal
 update_cause u vs columns names =
-    earlier (once_cause columns names) (earlier (values_cause columns names (take (length u.changes) vs)) (where_cause columns u.condition (drop (length u.changes) vs)))
+    earlier (once_cause columns names)
+    (earlier (values_cause columns names (take (length u.changes) vs)) (where_cause columns u.condition (drop (length u.changes) vs)))
 
 abbrev pub changed_row : List Column → List (List ℕ) → List StoredCell → Row → Row
 changed_row columns names vs row = record { number = row.number; cells = changed columns names vs row.cells }
@@ -140,7 +141,8 @@ update_rows scanned name (row ∷ rows) n = Ask (SetRow name row.number row.cell
 
 unfoldable pub update_in : Update → List StoredCell → List Column → List (List ℕ) → Plan
 update_in u vs columns names =
-    unless (update_cause u vs columns names) (Ask (AskRows u.table) (λ rows. update_rows (length rows) u.table (changed_rows u vs columns names rows) 0))
+    unless (update_cause u vs columns names)
+    (Ask (AskRows u.table) (λ rows. update_rows (length rows) u.table (changed_rows u vs columns names rows) 0))
 
 unfoldable pub update : Update → List StoredCell → Plan
 update u vs = on_table u.table (λ columns. update_in u vs columns (changed_names u))
@@ -155,7 +157,8 @@ delete_rows scanned name (number ∷ numbers) n = Ask (TakeRow name number) (λ 
 
 unfoldable pub delete_in : Delete → List StoredCell → List Column → Plan
 delete_in d vs columns =
-    unless (where_cause columns d.condition vs) (Ask (AskRows d.table) (λ rows. delete_rows (length rows) d.table (chosen_numbers columns d.condition vs rows) 0))
+    unless (where_cause columns d.condition vs)
+    (Ask (AskRows d.table) (λ rows. delete_rows (length rows) d.table (chosen_numbers columns d.condition vs rows) 0))
 
 unfoldable pub delete : Delete → List StoredCell → Plan
 delete d vs = on_table d.table (λ columns. delete_in d vs columns)

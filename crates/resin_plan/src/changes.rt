@@ -75,7 +75,8 @@ fn update_rows<T: Tables>(
     tables: &mut T,
     calls: &mut Calls,
 ) -> Result<SqlAnswer, SqlStop>
-    ensures { Ends (plan.update_rows scanned table.now rows.now 0) (keeping (T.stored tables.old) (T.faults tables.old) (T.answers tables.old) calls.old) result
+    ensures { Ends (plan.update_rows scanned table.now rows.now 0)
+        (keeping (T.stored tables.old) (T.faults tables.old) (T.answers tables.old) calls.old) result
         (keeping (T.stored tables.new) (T.faults tables.new) (T.answers tables.new) calls.new) }
 {
     let mut count = 0u64;
@@ -112,7 +113,8 @@ fn update_in<T: Tables>(
     tables: &mut T,
     calls: &mut Calls,
 ) -> Result<SqlAnswer, SqlStop>
-    ensures { Ends (plan.update_in statement.now values.now columns.now names.now) (keeping (T.stored tables.old) (T.faults tables.old) (T.answers tables.old) calls.old) result
+    ensures { Ends (plan.update_in statement.now values.now columns.now names.now)
+        (keeping (T.stored tables.old) (T.faults tables.old) (T.answers tables.old) calls.old) result
         (keeping (T.stored tables.new) (T.faults tables.new) (T.answers tables.new) calls.new) }
 {
     pass(update_cause(statement, columns, names, values))?;
@@ -134,7 +136,8 @@ pub(crate) fn update<T: Tables>(
     tables: &mut T,
     calls: &mut Calls,
 ) -> Result<SqlAnswer, SqlStop>
-    ensures { Ends (plan.update statement.now values.now) (keeping (T.stored tables.old) (T.faults tables.old) (T.answers tables.old) calls.old) result
+    ensures { Ends (plan.update statement.now values.now)
+        (keeping (T.stored tables.old) (T.faults tables.old) (T.answers tables.old) calls.old) result
         (keeping (T.stored tables.new) (T.faults tables.new) (T.answers tables.new) calls.new) }
 {
     let names = changed_names(alloc, statement.changes.as_slice())?;
@@ -186,7 +189,8 @@ fn delete_rows<T: Tables>(
     tables: &mut T,
     calls: &mut Calls,
 ) -> Result<SqlAnswer, SqlStop>
-    ensures { Ends (plan.delete_rows scanned table.now numbers.now 0) (keeping (T.stored tables.old) (T.faults tables.old) (T.answers tables.old) calls.old) result
+    ensures { Ends (plan.delete_rows scanned table.now numbers.now 0)
+        (keeping (T.stored tables.old) (T.faults tables.old) (T.answers tables.old) calls.old) result
         (keeping (T.stored tables.new) (T.faults tables.new) (T.answers tables.new) calls.new) }
 {
     let mut count = 0u64;
@@ -206,7 +210,8 @@ fn delete_in<T: Tables>(
     tables: &mut T,
     calls: &mut Calls,
 ) -> Result<SqlAnswer, SqlStop>
-    ensures { Ends (plan.delete_in statement.now values.now columns.now) (keeping (T.stored tables.old) (T.faults tables.old) (T.answers tables.old) calls.old) result
+    ensures { Ends (plan.delete_in statement.now values.now columns.now)
+        (keeping (T.stored tables.old) (T.faults tables.old) (T.answers tables.old) calls.old) result
         (keeping (T.stored tables.new) (T.faults tables.new) (T.answers tables.new) calls.new) }
 {
     pass(where_cause(columns, &statement.condition, values))?;
@@ -234,7 +239,8 @@ pub(crate) fn delete<T: Tables>(
     tables: &mut T,
     calls: &mut Calls,
 ) -> Result<SqlAnswer, SqlStop>
-    ensures { Ends (plan.delete statement.now values.now) (keeping (T.stored tables.old) (T.faults tables.old) (T.answers tables.old) calls.old) result
+    ensures { Ends (plan.delete statement.now values.now)
+        (keeping (T.stored tables.old) (T.faults tables.old) (T.answers tables.old) calls.old) result
         (keeping (T.stored tables.new) (T.faults tables.new) (T.answers tables.new) calls.new) }
 {
     let columns = opened(alloc, tables, calls, statement.table.as_slice())?;

@@ -27,7 +27,8 @@ fn insert_rows<T: Tables>(
     tables: &mut T,
     calls: &mut Calls,
 ) -> Result<SqlAnswer, SqlStop>
-    ensures { Ends (plan.insert_rows table.now (inserted columns.now names.now rows.now values.now) 0) (keeping (T.stored tables.old) (T.faults tables.old) (T.answers tables.old) calls.old) result
+    ensures { Ends (plan.insert_rows table.now (inserted columns.now names.now rows.now values.now) 0)
+        (keeping (T.stored tables.old) (T.faults tables.old) (T.answers tables.old) calls.old) result
         (keeping (T.stored tables.new) (T.faults tables.new) (T.answers tables.new) calls.new) }
 {
     let blank = blank(alloc, columns)?;
@@ -55,7 +56,8 @@ fn insert_into<T: Tables>(
     tables: &mut T,
     calls: &mut Calls,
 ) -> Result<SqlAnswer, SqlStop>
-    ensures { Ends (plan.insert_into statement.now values.now columns.now names.now) (keeping (T.stored tables.old) (T.faults tables.old) (T.answers tables.old) calls.old) result
+    ensures { Ends (plan.insert_into statement.now values.now columns.now names.now)
+        (keeping (T.stored tables.old) (T.faults tables.old) (T.answers tables.old) calls.old) result
         (keeping (T.stored tables.new) (T.faults tables.new) (T.answers tables.new) calls.new) }
 {
     let rows = statement.rows.as_slice();
@@ -81,7 +83,8 @@ pub(crate) fn insert<T: Tables>(
     tables: &mut T,
     calls: &mut Calls,
 ) -> Result<SqlAnswer, SqlStop>
-    ensures { Ends (plan.insert statement.now values.now) (keeping (T.stored tables.old) (T.faults tables.old) (T.answers tables.old) calls.old) result
+    ensures { Ends (plan.insert statement.now values.now)
+        (keeping (T.stored tables.old) (T.faults tables.old) (T.answers tables.old) calls.old) result
         (keeping (T.stored tables.new) (T.faults tables.new) (T.answers tables.new) calls.new) }
 {
     let columns = opened(alloc, tables, calls, statement.table.as_slice())?;

@@ -120,7 +120,8 @@ fn select_from<T: Tables>(
     tables: &mut T,
     calls: &mut Calls,
 ) -> Result<SqlAnswer, SqlStop>
-    ensures { Ends (plan.select_from statement.now values.now columns.now names.now) (keeping (T.stored tables.old) (T.faults tables.old) (T.answers tables.old) calls.old) result
+    ensures { Ends (plan.select_from statement.now values.now columns.now names.now)
+        (keeping (T.stored tables.old) (T.faults tables.old) (T.answers tables.old) calls.old) result
         (keeping (T.stored tables.new) (T.faults tables.new) (T.answers tables.new) calls.new) }
 {
     let named = names_cause(columns, names);
@@ -138,7 +139,8 @@ pub(crate) fn select<T: Tables>(
     tables: &mut T,
     calls: &mut Calls,
 ) -> Result<SqlAnswer, SqlStop>
-    ensures { Ends (plan.select statement.now values.now) (keeping (T.stored tables.old) (T.faults tables.old) (T.answers tables.old) calls.old) result
+    ensures { Ends (plan.select statement.now values.now)
+        (keeping (T.stored tables.old) (T.faults tables.old) (T.answers tables.old) calls.old) result
         (keeping (T.stored tables.new) (T.faults tables.new) (T.answers tables.new) calls.new) }
 {
     let columns = opened(alloc, tables, calls, statement.table.as_slice())?;

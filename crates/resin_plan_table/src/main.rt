@@ -2,12 +2,13 @@
 //!
 //! - `fail N ..`: the keeper's Nth calls fail. `made N`: N calls were made before.
 //! - `table NAME COLUMN ..`: a table as a keeper holds it, with columns as `a:T` and `a__resin:T`, T for TEXT and I for INTEGER.
-//! - `row CELL ..`: a row of that table, with cells as `N` for NULL, `5`, and `'abc` for a text. `row #7 CELL ..` has that number, else it is the next.
+//! - `row CELL ..`: a row of that table, with cells as `N` for NULL, `5`, and `'abc` for a text. `row #7 CELL ..` has that number, else it is the
+//!   next.
 //! - any other field is a statement. The shadow of its Kth literal is the text `sK`; that of NULL is empty.
 //!
-//! The line that is printed has an answer for each statement: a count, or the names of columns and rows, each cell with its shadow behind `~`, with the
-//! number of rows that the keeper gave; or why there is none. Behind `=` stand the keeper calls of the statement with what each answered, and behind `#` how many calls were
-//! made and the numbers of those that failed. Last come the tables with their rows.
+//! The line that is printed has an answer for each statement: a count, or the names of columns and rows, each cell with its shadow behind `~`,
+//! with the number of rows that the keeper gave; or why there is none. Behind `=` stand the keeper calls of the statement with what each
+//! answered, and behind `#` how many calls were made and the numbers of those that failed. Last come the tables with their rows.
 //!
 //! The output was worked out by two programs in another language: one written from the rules of the statements, and SQLite, where both mean the same.
 #![tactic(auto)]

@@ -1,7 +1,8 @@
 -- What the forms of programs are made of: tokens that stand for themselves, names, brackets, and the whole grammar of
 -- expressions.
-use Rattle.std.specs.Prelude.{ℕ, Bool, true, false, List, Option, Some, None}
-use Rattle.resin_form.specs.Form.{Begin, Own, Named, Form, give, andthen, next, maybe, After, followed, taken, opens, call}
+use Rattle.std.specs.Prelude.{ℕ, Bool, true, false, List}
+use Rattle.resin_form.specs.Form.{Begin, Named, Form, give, next, maybe, After, followed, taken, opens, call}
+pub use Rattle.resin_form.specs.InARow.{◌>>=◌, ◌>>◌, either, one_of, or_else}
 use Rattle.resin_form.specs.Lift.{lift}
 use Rattle.resin_lex.specs.declared.token.Token.{Token}
 use Rattle.resin_tree.specs.declared.expression.Expr.{Expr}
@@ -22,27 +23,6 @@ Rule A = Form Token Name Value A
 
 abbrev pub Behind : Begin → Type 0 → Type 1
 Behind b A = After Token Name Value b A
-
-infixl 10 ◌>>=◌
-abbrev pub ◌>>=◌ : {A B : Type 0} → Rule B → (B → Rule A) → Rule A
-F >>= G = andthen F G
-
-infixl 10 ◌>>◌
-abbrev pub ◌>>◌ : {A B : Type 0} → Rule B → Rule A → Rule A
-F >> G = andthen F (λ _. G)
-
-abbrev pub either : {A : Type 0} → Bool → Rule A → Rule A → Rule A
-either true F G = F
-either false F G = G
-
--- one of two ways to go on behind a token
-abbrev pub one_of : {b : Begin} {A : Type 0} → Bool → Behind b A → Behind b A → Behind b A
-one_of true F G = F
-one_of false F G = G
-
-abbrev pub or_else : {A : Type 0} → Rule A → Option A → Rule A
-or_else F (Some a) = give a
-or_else F None = F
 
 -- a token that stands for itself
 unfoldable pub expects : Sign → Rule (Unit {0})

@@ -76,7 +76,8 @@ parameters = optional parameter (λ p. more_parameters (p ∷ [])) []
 
 -- `name(..) { s.. }`, behind `function`
 unfoldable pub function : ℕ → Rule Function
-function at = a_name >>= λ n. in_round FunctionParameters >>= λ ps. expects s.RightRound >> result_type >> braces false >>= λ ss. give (tree.function at n ps ss)
+function at =
+    a_name >>= λ n. in_round FunctionParameters >>= λ ps. expects s.RightRound >> result_type >> braces false >>= λ ss. give (tree.function at n ps ss)
 
 -- ---- classes
 

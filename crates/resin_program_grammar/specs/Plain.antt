@@ -128,7 +128,8 @@ whole_expression_statement line = next (begins expression) (λ t. expression_sta
 
 -- whether a token begins a statement
 unfoldable pub begins_statement : Bool → Token → Bool
-begins_statement in_loop t = is_some (inline_of t.kind) || (is_some (plain_of in_loop t.kind) || (is_some (compound_of t.kind) || begins expression t))
+begins_statement in_loop t =
+    is_some (inline_of t.kind) || (is_some (plain_of in_loop t.kind) || (is_some (compound_of t.kind) || begins expression t))
 
 -- ---- what stands in the brackets of other statements
 

@@ -17,7 +17,8 @@ module _ {Token Name : Type 0} {Value : Name → Type 0} where
   named (call n) = call n
 
   -- the second of two forms begins where the first is over
-  abbrev pub then_start : {A B : Type 0} → Start Token Name Value B → (B → Start Token Name Value A) → (B → Form Token Name Value A) → Start Token Name Value A
+  abbrev pub then_start : {A B : Type 0} → Start Token Name Value B → (B → Start Token Name Value A) → (B → Form Token Name Value A)
+      → Start Token Name Value A
   then_start (Takes F) second G = Takes (followed F G)
   then_start (Passes b) second G = second b
   then_start Refuses second G = Refuses

@@ -65,7 +65,8 @@ unfoldable pub body_follows : Around → Rule (Option (Stmt × Left))
 body_follows a = next (λ t. is_sign s.RightRound t.kind) (λ _. call (Body a))
 
 abbrev pub do_end : ℕ → Option (Stmt × Left) → Rule (Stmt × Left)
-do_end at (Some body) = wants w.While >> condition >>= λ e. expects s.RightRound >> wants w.Semicolon >> give (alone (tree.loop at (loop.DoWhile body.0 e)))
+do_end at (Some body) =
+    wants w.While >> condition >>= λ e. expects s.RightRound >> wants w.Semicolon >> give (alone (tree.loop at (loop.DoWhile body.0 e)))
 do_end at None = no_token (alone (tree.block at []))
 
 unfoldable pub do_form : ℕ → Behind Named (Stmt × Left)
@@ -138,10 +139,12 @@ module _ (line : Token → ℕ) where
   while_form a at = condition >>= λ e. body_follows (looping a) >>= loop_body w.EndWhile >>= λ body. give (tree.loop at (loop.While e body.0), body.1)
 
   unfoldable pub for_form : Around → ℕ → Rule (Stmt × Left)
-  for_form a at = in_round ForHead >>= λ h. body_follows (looping a) >>= loop_body w.EndFor >>= λ body. give (tree.loop at (loop.For h.0 h.1 h.2 body.0), body.1)
+  for_form a at =
+      in_round ForHead >>= λ h. body_follows (looping a) >>= loop_body w.EndFor >>= λ body. give (tree.loop at (loop.For h.0 h.1 h.2 body.0), body.1)
 
   unfoldable pub foreach_form : Around → ℕ → Rule (Stmt × Left)
-  foreach_form a at = in_round ForeachHead >>= λ h. body_follows (looping a) >>= loop_body w.EndForeach >>= λ body. give (tree.loop at (loop.Foreach h.0 h.1 h.2 body.0), body.1)
+  foreach_form a at =
+      in_round ForeachHead >>= λ h. body_follows (looping a) >>= loop_body w.EndForeach >>= λ body. give (tree.loop at (loop.Foreach h.0 h.1 h.2 body.0), body.1)
 
   -- ---- `if` in the form with `:`
 
@@ -154,7 +157,9 @@ module _ (line : Token → ℕ) where
   parts_ended c = wants w.Semicolon >> give (tree.whole c None)
 
   abbrev pub part_word : Bool → Chain → TokenKind → Behind Named Stmt
-  part_word in_loop c kind = one_of (is_word w.ElseIf kind) (opens 0 (call (PartLink in_loop c))) (one_of (is_word w.Else kind) (plain (last_part in_loop c)) (plain (parts_ended c)))
+  part_word in_loop c kind =
+      one_of (is_word w.ElseIf kind) (opens 0 (call (PartLink in_loop c)))
+      (one_of (is_word w.Else kind) (plain (last_part in_loop c)) (plain (parts_ended c)))
 
   -- behind the body of a link: `elseif`, `else` or `endif`
   unfoldable pub open_parts : Bool → Chain → Rule Stmt
@@ -235,7 +240,9 @@ module _ (line : Token → ℕ) where
   is_nothing (ElseIf e) = false
 
   unfoldable pub more_statements : Around → List Stmt × Left → Rule (List Stmt × Left)
-  more_statements a done = many (λ done t. is_nothing done.1 && begins_statement a.in_loop t) (λ done t. followed (statement a t) (λ st. give (done.0 ++ st.0 ∷ [], st.1))) done
+  more_statements a done =
+      many (λ done t. is_nothing done.1 && begins_statement a.in_loop t)
+      (λ done t. followed (statement a t) (λ st. give (done.0 ++ st.0 ∷ [], st.1))) done
 
   -- one behind the other, until one has left something
   unfoldable pub statements : Around → Rule (List Stmt × Left)
@@ -260,7 +267,8 @@ module _ (line : Token → ℕ) where
 
   -- behind `else`: a link, a body, or nothing where `:` comes next
   unfoldable pub else_body : Around → Chain → Token → Behind Named (Stmt × Left)
-  else_body a c t = one_of (is_word w.If t.kind) (plain (link a c false)) (followed (body_statement a t) (λ st. give (tree.whole c (Some st.0), st.1)))
+  else_body a c t =
+      one_of (is_word w.If t.kind) (plain (link a c false)) (followed (body_statement a t) (λ st. give (tree.whole c (Some st.0), st.1)))
 
   unfoldable pub one_else_body : Around → Chain → Rule (Stmt × Left)
   one_else_body a c = next (begins_statement a.in_loop) (else_body a c)
@@ -272,7 +280,8 @@ module _ (line : Token → ℕ) where
   otherwise a c = maybe (begins_statement a.in_loop) (λ t. enters (followed (else_body a c t) (λ st. give (Some st)))) None >>= or_else (else_end a c)
 
   unfoldable pub part : Bool → Chain → Expr → ℕ → Rule Parts
-  part in_loop c e at = statements (record { in_loop = in_loop; in_part = true }) >>= λ done. part_end in_loop (tree.longer c e (tree.block at done.0)) done.1
+  part in_loop c e at =
+      statements (record { in_loop = in_loop; in_part = true }) >>= λ done. part_end in_loop (tree.longer c e (tree.block at done.0)) done.1
 
   unfoldable pub case_after : List Case → TokenKind → Rule (List Case)
   case_after cs kind = case_test kind >>= λ e. expects s.Colon >> inner_statements true >>= λ ss. give (cs ++ tree.case e ss ∷ [])

@@ -25,6 +25,8 @@ pub use word::Word;
 /// A law of the grammar, whatever the lines of tokens are: a list of tokens is one program at most, and what a front of a
 /// program begins with is a front too.
 pub fn programs_are_read_one_way()
-    ensures one_tree { (line : Token → ℕ) (w : List Token) (p q : Program) → IsTree (rules line) (program line) w p → IsTree (rules line) (program line) w q → p ≡ q }
-    ensures fronts { (line : Token → ℕ) (u more : List Token) → IsFront (rules line) (program line) (u ++ more) → IsFront (rules line) (program line) u }
+    ensures one_tree { (line : Token → ℕ) (w : List Token) (p q : Program)
+        → IsTree (rules line) (program line) w p → IsTree (rules line) (program line) w q → p ≡ q }
+    ensures fronts { (line : Token → ℕ) (u more : List Token)
+        → IsFront (rules line) (program line) (u ++ more) → IsFront (rules line) (program line) u }
 {}

@@ -32,7 +32,8 @@ place_meets test (Some p) = test p
 abbrev pub test_holds : List Column → List Cell → Test → Part Bool
 test_holds columns cells (Compare name op literal) vs =
     (place_meets (λ (p : Place). meets op (value_at cells p.at) (front_value vs)) (found columns name), drop 1 vs)
-test_holds columns cells (Null name negated) vs = (place_meets (λ (p : Place). meets_null negated p.kind (value_at cells p.at)) (found columns name), vs)
+test_holds columns cells (Null name negated) vs =
+    (place_meets (λ (p : Place). meets_null negated p.kind (value_at cells p.at)) (found columns name), vs)
 
 abbrev pub all_hold : List (Part Bool) → Part Bool
 all_hold [] vs = (true, vs)

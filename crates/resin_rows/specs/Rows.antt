@@ -50,7 +50,8 @@ blank (column ∷ columns) = cell.Null ∷ cell.Text [] ∷ blank columns
 -- the rows of an INSERT, whose values follow one another; columns that aren't named are NULL
 abbrev pub inserted : {A : Type 0} → List Column → List (List ℕ) → List (List A) → List StoredCell → List (List Cell)
 inserted columns names [] vs = []
-inserted columns names (row ∷ rows) vs = changed columns names (take (length row) vs) (blank columns) ∷ inserted columns names rows (drop (length row) vs)
+inserted columns names (row ∷ rows) vs =
+    changed columns names (take (length row) vs) (blank columns) ∷ inserted columns names rows (drop (length row) vs)
 
 -- ---- rows that are answered
 

@@ -40,7 +40,8 @@ pub fn chosen_places(
     values: &[StoredCell],
     rows: &[Row],
 ) -> Result<Vec<usize>, AllocError>
-    ensures { IfOk result (λ places. map (row_at (cells_of rows.now)) places.items ≡ filter (where_holds columns.now condition.now values.now) (cells_of rows.now)) }
+    ensures { IfOk result (λ places.
+        map (row_at (cells_of rows.now)) places.items ≡ filter (where_holds columns.now condition.now values.now) (cells_of rows.now)) }
 {
     let mut places = Vec::new(alloc);
     for i in 0..rows.len() {
@@ -69,7 +70,8 @@ fn sort_places(
     place: Place,
     descending: bool,
 ) -> Result<(), AllocError>
-    ensures { OnOk result (map (row_at (cells_of rows.now)) places.new.items ≡ in_order (comes_before place descending) (map (row_at (cells_of rows.now)) places.old.items)) }
+    ensures { OnOk result (map (row_at (cells_of rows.now)) places.new.items
+        ≡ in_order (comes_before place descending) (map (row_at (cells_of rows.now)) places.old.items)) }
 {
     places.sort_by(|a, b| row_order(place, descending, cells_at(rows, *a), cells_at(rows, *b)))?;
     Ok(())
@@ -82,7 +84,8 @@ pub fn order_places(
     rows: &[Row],
     order: &Option<Order>,
 ) -> Result<(), AllocError>
-    ensures { OnOk result (map (row_at (cells_of rows.now)) places.new.items ≡ ordered columns.now order.now (map (row_at (cells_of rows.now)) places.old.items)) }
+    ensures { OnOk result (map (row_at (cells_of rows.now)) places.new.items
+        ≡ ordered columns.now order.now (map (row_at (cells_of rows.now)) places.old.items)) }
 {
     match order {
         None => Ok(()),

@@ -1,18 +1,20 @@
-//! Serves traces over a small site, one run a line. Fields stand between `|`, and `\n` and `\r` stand for those bytes. The first field is the kind of the row, with
-//! settings behind it, each a word and a number; in each kind but the last come then the words of the command line and what comes in. The site holds `a.php` with
-//! `hi` and `d.txt` with `abc`; a name and the bytes of a further file may stand last, and more of them. The kinds are:
+//! Serves traces over a small site, one run a line. Fields stand between `|`, and `\n` and `\r` stand for those bytes. The first field is the
+//! kind of the row, with settings behind it, each a word and a number; in each kind but the last come then the words of the command line and what
+//! comes in. The site holds `a.php` with `hi` and `d.txt` with `abc`; a name and the bytes of a further file may stand last, and more of them.
+//! The kinds are:
 //!
 //! - `calm`: a trace, from a source that never fails, to an output that never fails. `times N` gives it N times over.
-//! - `fake`: the same, from a source that gives `chunk N` bytes at most, to an output that takes `sink N` at most. `read N`, `write N` and `file N` let the Nth call
-//!   of the source, of the output or of the files fail.
+//! - `fake`: the same, from a source that gives `chunk N` bytes at most, to an output that takes `sink N` at most. `read N`, `write N` and `file
+//!   N` let the Nth call of the source, of the output or of the files fail.
 //! - `left`: the same, and only the status is printed, with what the source gives next to a buffer of 65,536 bytes.
-//! - `singly`: as `calm`, but the stream of one connection, of which each byte is a record: its front, and more texts, each behind the number of times that it comes.
+//! - `singly`: as `calm`, but the stream of one connection, of which each byte is a record: its front, and more texts, each behind the number of
+//!   times that it comes.
 //! - `cuts`: a stream that is served whole, and then in two records, for each place to cut it.
 //! - `code NAME`: only the exit code of a status.
 //!
-//! A line is printed for each row: the status and its exit code, the keeper calls with the numbers of those that failed, and the output, the log and the mail, where they
-//! hold anything. Of a row of cuts it has the status, how long the output is, and how many cuts give the same one. A line that begins with `# ` is a heading and is
-//! printed as it is.
+//! A line is printed for each row: the status and its exit code, the keeper calls with the numbers of those that failed, and the output, the log
+//! and the mail, where they hold anything. Of a row of cuts it has the status, how long the output is, and how many cuts give the same one. A
+//! line that begins with `# ` is a heading and is printed as it is.
 //!
 //! The input, and the output, which was worked out by hand from the formats of traces and responses, are the table of the tests of runs.
 #![tactic(auto)]

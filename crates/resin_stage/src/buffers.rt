@@ -1,15 +1,12 @@
 //! Output buffers.
 ghost use Rattle.std.specs.Prelude.{◌≡◌, ◌<◌, ◌≤◌, ◌+◌, [], ◌∷◌, ◌++◌, length, MatchOption, OnOk, OnErr};
-ghost use Rattle.resin_scope.specs.Under.lstr.Texts.{LONGEST};
 ghost use Rattle.resin_scope.specs.Pages.{innermost, appended_to_innermost};
 ghost use Rattle.resin_stage.specs.Buffered.{Joined, Joins};
 
-use resin_scope::under::lstr::{Builder, LText, TextFault};
+use resin_scope::under::lstr::{Builder, LONGEST, LText, TextFault};
 use std::alloc::{AllocError, Global};
 use std::marker::Model;
 use std::mem;
-
-const LONGEST_TEXT: usize = 16_777_216;
 
 /// The open output buffers, from the outermost to the innermost. Many small texts go into one in time in proportion to their bytes.
 #[derive(Drop)]
@@ -76,7 +73,7 @@ impl Buffers {
 fn append_to(alloc: Global, slot: &mut Builder, t: &LText) -> Result<(), TextFault>
     ensures { Joined t.now slot.old result slot.new }
 {
-    if t.len() > LONGEST_TEXT - slot.len() {
+    if t.len() > LONGEST - slot.len() {
         return Err(TextFault::TooLong);
     }
     let text = mem::replace(slot, Builder::new(alloc));

@@ -1,12 +1,13 @@
-//! Acts on what a request holds, and prints what each act answers. A line that names a kind begins a new state of it, without anything in it: `classes`,
-//! `objects`, `scopes`, `chains`, `page`, `journal` or `stage`; each line behind it is an act on that state: its name and its arguments, split by `|`. `\n` in
-//! an argument stands for that byte, both in what is read and in what is printed. A line that begins with `#` is a heading and is printed as it is.
+//! Acts on what a request holds, and prints what each act answers. A line that names a kind begins a new state of it, without anything in it:
+//! `classes`, `objects`, `scopes`, `chains`, `page`, `journal` or `stage`; each line behind it is an act on that state: its name and its
+//! arguments, split by `|`. `\n` in an argument stands for that byte, both in what is read and in what is printed. A line that begins with `#` is
+//! a heading and is printed as it is.
 //!
-//! The acts are named by the calls that they make. What they answer stands behind ` = `; an act without an answer is printed alone. `none` says that there is
-//! no such class, variable, field, buffer or line.
+//! The acts are named by the calls that they make. What they answer stands behind ` = `; an act without an answer is printed alone. `none` says
+//! that there is no such class, variable, field, buffer or line.
 //!
-//! The output was worked out by hand from the PHP manual ("Object Inheritance", "Classes and Objects", "Predefined Exceptions", "Variable scope", `header`,
-//! `ob_start`) and this project's formats; it is the table of the tests of the crates that hold the state of a request.
+//! The output was worked out by hand from the PHP manual ("Object Inheritance", "Classes and Objects", "Predefined Exceptions", "Variable scope",
+//! `header`, `ob_start`) and this project's formats; it is the table of the tests of the crates that hold the state of a request.
 #![tactic(auto)]
 
 mod answer;

@@ -1,5 +1,5 @@
--- What stands at an index and at a property of a value (PHP manual, "Arrays", "String access and modification by character", "Properties"). What isn't
--- there reads as null.
+-- What stands at an index and at a property of a value (PHP manual, "Arrays", "String access and modification by character", "Properties"). What
+-- isn't there reads as null.
 use Rattle.std.specs.Prelude.{◌≡◌, ℕ, Bool, List, [], ◌∷◌, Option, None, Some, Result, Ok, Err, unwrap_or, if◌then◌else◌}
 use Rattle.resin_ops.specs.Under.scalar.declared.faults.ScriptFault.TheVariants.{BadOperand}
 use Rattle.resin_ops.specs.Under.scalar.declared.faults.CallStop.{CallStop}
@@ -33,8 +33,8 @@ abbrev pub byte_of : Bool → Result Tree CallStop → Result Value CallStop
 byte_of lenient (Ok t) = Ok (value_of t)
 byte_of lenient (Err stop) = if lenient then Ok Null else Err stop
 
--- `a[e]`, where e has a value: an array has values at its keys, a text bytes, and null, a boolean or an integer nothing at any; an object has no index. In
--- `isset`, `empty` and the left of `??` reading is lenient: a text key into a text, and an index into an object, read as null there
+-- `a[e]`, where e has a value: an array has values at its keys, a text bytes, and null, a boolean or an integer nothing at any; an object has no
+-- index. In `isset`, `empty` and the left of `??` reading is lenient: a text key into a text, and an index into an object, read as null there
 abbrev pub at_index : Bool → Value → Value → Result Value CallStop
 at_index lenient e Null = Ok Null
 at_index lenient e (Truth b) = Ok Null

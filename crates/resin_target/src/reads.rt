@@ -47,8 +47,8 @@ fn field_of(m: &Machine, o: u32, name: &[u8]) -> Result<Value, AllocError>
     }
 }
 
-/// `a[e]`, where `a` and `e` have these values. BadOperand comes where e is no key, and, unless reading is lenient, for a text key into a text and for
-/// an index into an object. In `isset`, `empty` and the left of `??` reading is lenient.
+/// `a[e]`, where `a` and `e` have these values. BadOperand comes where e is no key, and, unless reading is lenient, for a text key into a text
+/// and for an index into an object. In `isset`, `empty` and the left of `??` reading is lenient.
 pub fn at_index(alloc: Global, lenient: bool, e: &Value, here: &Value) -> Result<Value, CallStop>
     ensures { GivesOrNoMemory result (at_index lenient e.now here.now) }
 {

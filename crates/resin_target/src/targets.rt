@@ -122,9 +122,10 @@ fn store_there(
     }
 }
 
-/// `t = v`, where t is a variable with these postfixes. It is BadOperand exactly where an index stands under a value that is neither null nor an array, an
-/// index is no key, or a property is set of no object; an Error is thrown where an array has no next index; ArrayTooDeep comes where an array would be
-/// more than 100 high. Keys are turned from the left, and nothing is changed unless all is well. An array that none else holds is changed in its place.
+/// `t = v`, where t is a variable with these postfixes. It is BadOperand exactly where an index stands under a value that is neither null nor an
+/// array, an index is no key, or a property is set of no object; an Error is thrown where an array has no next index; ArrayTooDeep comes where an
+/// array would be more than 100 high. Keys are turned from the left, and nothing is changed unless all is well. An array that none else holds is
+/// changed in its place.
 pub fn store(
     alloc: Global,
     m: &mut Machine,
@@ -251,9 +252,9 @@ fn erase_there(alloc: Global, m: &mut Machine, at: &Place, indices: &[Index]) ->
     }
 }
 
-/// `unset(t)`, where t is a variable with these postfixes. A key or a property that isn't there, or stands under null, leaves everything as it is. It is
-/// BadOperand exactly where an index stands under another value that is no array, an index is no key, or a property is unset of another value that is no
-/// object. An array that none else holds is changed in its place.
+/// `unset(t)`, where t is a variable with these postfixes. A key or a property that isn't there, or stands under null, leaves everything as it
+/// is. It is BadOperand exactly where an index stands under another value that is no array, an index is no key, or a property is unset of another
+/// value that is no object. An array that none else holds is changed in its place.
 pub fn erase(alloc: Global, m: &mut Machine, name: &SharedBytes, path: &Path) -> Result<(), Stop>
     ensures acts { ActsLoosely (step.erase name.now path.now) m.old result m.new }
 {

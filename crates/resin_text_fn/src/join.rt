@@ -42,9 +42,9 @@ fn repeated(alloc: Global, s: &LText, times: usize) -> Result<LText, TextFault>
     Ok(out.finish()?)
 }
 
-/// `str_pad`: the text with `padding`, repeated and cut, at its left (side 0) or right (side 1) so that it is `width` bytes long, unchanged where it has that
-/// many. `ValueError` is thrown exactly for an empty padding or another side, also where nothing is added; `TextTooLong` comes exactly where the answer
-/// would pass 16,777,216 bytes, or want of memory in its place.
+/// `str_pad`: the text with `padding`, repeated and cut, at its left (side 0) or right (side 1) so that it is `width` bytes long, unchanged where
+/// it has that many. `ValueError` is thrown exactly for an empty padding or another side, also where nothing is added; `TextTooLong` comes
+/// exactly where the answer would pass 16,777,216 bytes, or want of memory in its place.
 pub fn str_pad(
     alloc: Global,
     s: &LText,
@@ -106,8 +106,8 @@ fn cycled(alloc: Global, p: &LText, len: usize) -> Result<LText, TextFault>
     Ok(out.finish()?)
 }
 
-/// `implode`: the texts with `glue` between neighbours. `TextTooLong` comes exactly where the answer would pass 16,777,216 bytes, or want of memory in its
-/// place.
+/// `implode`: the texts with `glue` between neighbours. `TextTooLong` comes exactly where the answer would pass 16,777,216 bytes, or want of
+/// memory in its place.
 pub fn implode(alloc: Global, glue: &LText, texts: &Texts) -> Result<LText, CallStop>
     ensures { GivesOrNoMemory result (implode glue.now texts.now) }
 {

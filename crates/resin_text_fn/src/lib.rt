@@ -1,8 +1,8 @@
 //! The text functions that scripts call by name, from `strlen` to `str_pad` (PHP manual, "String Functions", in this project's profile). Each takes
 //! labelled texts, and every byte that it copies keeps its set. Positions, lengths and booleans carry nothing.
 //!
-//! A call answers its value, an exception that the script can catch, the fault of a text over 16,777,216 bytes, or want of memory. Searches take time in
-//! proportion to the text and the needle, and joins to the bytes and runs that they join.
+//! A call answers its value, an exception that the script can catch, the fault of a text over 16,777,216 bytes, or want of memory. Searches take
+//! time in proportion to the text and the needle, and joins to the bytes and runs that they join.
 #![tactic(auto)]
 
 mod join;

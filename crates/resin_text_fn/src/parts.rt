@@ -11,8 +11,8 @@ use resin_lstr::{LText, Texts};
 use resin_scalar::{CallStop, ErrorKind};
 use std::alloc::{AllocError, Global};
 
-/// `substr`: the bytes from `offset` on, `count` of them. A negative offset counts from the end, at least 0; past the end the answer is empty. A negative
-/// count leaves that many off the end, and `None` takes all.
+/// `substr`: the bytes from `offset` on, `count` of them. A negative offset counts from the end, at least 0; past the end the answer is empty. A
+/// negative count leaves that many off the end, and `None` takes all.
 pub fn substr(alloc: Global, s: &LText, offset: i64, count: Option<i64>) -> Result<LText, CallStop>
     ensures { Gives result (Ok (substr s.now offset count)) }
 {
@@ -114,7 +114,8 @@ fn kept_len(bytes: &[u8], chars: &[u8]) -> usize
     end
 }
 
-/// `explode`: the pieces of `s` round the matches of `separator`, `s` alone where there is none. `ValueError` is thrown exactly for an empty separator.
+/// `explode`: the pieces of `s` round the matches of `separator`, `s` alone where there is none. `ValueError` is thrown exactly for an empty
+/// separator.
 pub fn explode(alloc: Global, separator: &LText, s: &LText) -> Result<Texts, CallStop>
     ensures { Gives result (explode separator.now s.now) }
 {

@@ -11,10 +11,10 @@ use resin_lstr::{Builder, LText, TextFault, Texts};
 use resin_scalar::{CallStop, Ticks};
 use std::alloc::Global;
 
-/// `str_replace`: the text with the matches of each search replaced, one search after the other, by the text at the same place in `with`, by the empty text
-/// where there is none. An empty search changes nothing. Each search first costs a tick for each 256 bytes of the text that it takes; `FuelSpent` comes exactly
-/// where that is more than what is left, and `TextTooLong` exactly where a search's answer would pass 16,777,216 bytes. Want of memory may come in the place of
-/// any answer, and leaves the ticks as they were.
+/// `str_replace`: the text with the matches of each search replaced, one search after the other, by the text at the same place in `with`, by the
+/// empty text where there is none. An empty search changes nothing. Each search first costs a tick for each 256 bytes of the text that it takes;
+/// `FuelSpent` comes exactly where that is more than what is left, and `TextTooLong` exactly where a search's answer would pass 16,777,216 bytes.
+/// Want of memory may come in the place of any answer, and leaves the ticks as they were.
 pub fn str_replace(
     alloc: Global,
     searches: &Texts,

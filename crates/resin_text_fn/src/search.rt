@@ -18,8 +18,8 @@ pub fn strlen(s: &LText) -> Result<i64, CallStop>
     Ok(s.len() as i64)
 }
 
-/// `strpos`: the first place at which `needle` stands in `haystack` from `offset` on, `None` where it stands nowhere there. A negative offset counts from
-/// the end. `ValueError` is thrown exactly for an offset outside the text, whose end is inside.
+/// `strpos`: the first place at which `needle` stands in `haystack` from `offset` on, `None` where it stands nowhere there. A negative offset
+/// counts from the end. `ValueError` is thrown exactly for an offset outside the text, whose end is inside.
 pub fn strpos(haystack: &LText, needle: &LText, offset: i64) -> Result<Option<i64>, CallStop>
     ensures { result ≡ strpos haystack.now needle.now offset }
 {
@@ -100,8 +100,8 @@ pub fn str_ends_with(haystack: &LText, needle: &LText) -> Result<bool, CallStop>
     Ok(haystack.bytes().ends_with(needle.bytes()))
 }
 
-/// `substr_count`: how many matches of `needle` follow one another in `haystack` without overlapping, from the left. `ValueError` is thrown exactly for an
-/// empty needle.
+/// `substr_count`: how many matches of `needle` follow one another in `haystack` without overlapping, from the left. `ValueError` is thrown
+/// exactly for an empty needle.
 pub fn substr_count(haystack: &LText, needle: &LText) -> Result<i64, CallStop>
     ensures { result ≡ substr_count haystack.now needle.now }
 {

@@ -1,8 +1,8 @@
-//! Prints the answers of the text functions, one call a line. A call is a name and its arguments, split by `|`; `{1}` after bytes says that they carry the
-//! policy 1, `^s`, `^n`, `^r`, `^t`, `^v` and `^0` stand for a space and the other blanks, `3*ab&c` is three times `ab` and then `c`, `[a,b]` is an array, and
-//! `null` an argument that is left out. A request has 1,000 ticks, or as many as stand before the name, as `10 ticks|`. A long run is printed as its length,
-//! and a line that begins with `#` as it stands. The output, which was worked out from the PHP manual and this project's profile by hand and by a program of
-//! its own, is the table of their tests.
+//! Prints the answers of the text functions, one call a line. A call is a name and its arguments, split by `|`; `{1}` after bytes says that they
+//! carry the policy 1, `^s`, `^n`, `^r`, `^t`, `^v` and `^0` stand for a space and the other blanks, `3*ab&c` is three times `ab` and then `c`,
+//! `[a,b]` is an array, and `null` an argument that is left out. A request has 1,000 ticks, or as many as stand before the name, as `10 ticks|`.
+//! A long run is printed as its length, and a line that begins with `#` as it stands. The output, which was worked out from the PHP manual and
+//! this project's profile by hand and by a program of its own, is the table of their tests.
 #![tactic(auto)]
 
 use resin_label::PSet;

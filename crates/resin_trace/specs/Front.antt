@@ -1,5 +1,5 @@
 -- What stands at the front of a text, worked out byte by byte.
-use Rattle.std.specs.Prelude.{◌≡◌, ◌≤◌, ◌<◌, ℕ, suc, ◌+◌, ◌-◌, ◌*◌, Bool, ◌&&◌, ◌||◌, ◌==◌, nat_le, nat_lt, List, [], ◌∷◌, length, take, drop, get_or, if◌then◌else◌}
+use Rattle.std.specs.Prelude.{◌≡◌, ◌≤◌, ◌<◌, ℕ, suc, ◌+◌, ◌-◌, ◌*◌, Bool, ◌&&◌, ◌||◌, ◌==◌, nat_le, nat_lt, List, [], ◌∷◌, length, take, drop, get_or, if◌then◌else◌, codes}
 use Rattle.resin_trace.specs.declared.event.TraceEvent.{TraceEvent}
 use Rattle.resin_trace.specs.declared.event.TraceEvent.TheVariants.{Piece, End}
 use Rattle.resin_trace.specs.declared.scan.Scan.{Scan}
@@ -59,7 +59,7 @@ after f text (n.Whole value used) = f value used (drop used text)
 abbrev pub said : ℕ → ℕ → List ℕ → Found
 said conn at [] = Need
 said conn at (b ∷ bs) =
-    if b == 101 then end conn (at + 1) (110 ∷ 100 ∷ 10 ∷ []) bs
+    if b == 101 then end conn (at + 1) (codes "nd\n") bs
     else after (λ count used. sized conn count (at + used)) (b ∷ bs) (number 0 1048576 (b ∷ bs))
 
 abbrev pub numbered : ℕ → ℕ → List ℕ → Found
@@ -71,7 +71,8 @@ front text = after numbered text (number 1 1000 text)
 
 -- what the code found says the same; the bytes of a piece stand in the text from one place to another
 abbrev pub Shows : List ℕ → Scan → Found → Type 0
-Shows text (ScanPiece conn from to) found = (found ≡ Whole (Piece conn (take (to - from) (drop from text))) (to + 1)) × (from ≤ to) × (to < length text)
+Shows text (ScanPiece conn from to) found =
+    (found ≡ Whole (Piece conn (take (to - from) (drop from text))) (to + 1)) × (from ≤ to) × (to < length text)
 Shows text (ScanEnd conn used) found = (found ≡ Whole (End conn) used) × (used ≤ length text)
 Shows text ScanNeed found = found ≡ Need
 Shows text ScanBad found = found ≡ Bad

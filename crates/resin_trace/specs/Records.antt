@@ -1,8 +1,9 @@
 -- Records of a trace, as a relation from texts to what they say.
-use Rattle.std.specs.Prelude.{◌≡◌, ℕ, ◌+◌, ◌*◌, ◌-◌, ◌≤◌, List, [], ◌∷◌, ◌++◌, length, take, All}
+use Rattle.std.specs.Prelude.{◌≡◌, ℕ, ◌+◌, ◌*◌, ◌-◌, ◌≤◌, List, [], ◌∷◌, ◌++◌, length, take, All, codes}
 use Rattle.resin_trace.specs.declared.event.TraceEvent.{TraceEvent}
 use Rattle.resin_trace.specs.declared.event.TraceEvent.TheVariants.{Piece, End}
 
+-- how many bytes of a trace are read
 abbrev pub limit : ℕ
 limit = 67108864
 
@@ -25,6 +26,7 @@ pub record Numeral (text : List ℕ) (n : ℕ) : Type 0 where
   pub canonical : IsCanonical text
   pub says : value 0 text ≡ n
 
+-- bytes that came on a connection: `CONN SIZE` and the bytes, each with an end of line behind it
 pub record PieceText (text : List ℕ) (conn : ℕ) (bytes : List ℕ) : Type 0 where
   pub head : List ℕ
   pub size : List ℕ
@@ -33,14 +35,15 @@ pub record PieceText (text : List ℕ) (conn : ℕ) (bytes : List ℕ) : Type 0 
   pub high : conn ≤ 1000
   pub size_is : Numeral size (length bytes)
   pub small : length bytes ≤ 1048576
-  pub is : text ≡ head ++ 32 ∷ (size ++ 10 ∷ (bytes ++ 10 ∷ []))
+  pub is : text ≡ head ++ (codes " " ++ (size ++ (codes "\n" ++ (bytes ++ codes "\n"))))
 
+-- the end of a connection: `CONN end`
 pub record EndText (text : List ℕ) (conn : ℕ) : Type 0 where
   pub head : List ℕ
   pub conn_is : Numeral head conn
   pub low : 1 ≤ conn
   pub high : conn ≤ 1000
-  pub is : text ≡ head ++ 32 ∷ 101 ∷ 110 ∷ 100 ∷ 10 ∷ []
+  pub is : text ≡ head ++ codes " end\n"
 
 -- the text is a record that says this
 abbrev pub Spells : List ℕ → TraceEvent → Type 0

@@ -19,9 +19,12 @@ pub fn trace_laws()
 /// the trace that these bytes are.
 pub fn reader_laws()
     ensures begins { HasRead [] [] begin }
-    ensures feeds { (trace piece : List ℕ) (handed : List (TraceEvent × ℕ)) (s : Seen) → HasRead trace handed s → HasRead (trace ++ piece) handed (fed s piece) }
+    ensures feeds { (trace piece : List ℕ) (handed : List (TraceEvent × ℕ)) (s : Seen)
+        → HasRead trace handed s → HasRead (trace ++ piece) handed (fed s piece) }
     ensures hands { (trace : List ℕ) (handed : List (TraceEvent × ℕ)) (s t : Seen) (event : TraceEvent) → HasRead trace handed s → HandsOut s event t
         → HasRead trace (handed ++ (event, t.place) ∷ []) t }
-    ensures breaks { (trace : List ℕ) (handed : List (TraceEvent × ℕ)) (s t : Seen) (fault : TraceFault) → HasRead trace handed s → Reads s (Err fault) t → IsMemoryOr fault (Ends trace (Err fault)) }
-    ensures finishes { (trace : List ℕ) (handed : List (TraceEvent × ℕ)) (s : Seen) (answer : Result Unit TraceFault) → HasRead trace handed s → Finishes s answer → Ends trace answer }
+    ensures breaks { (trace : List ℕ) (handed : List (TraceEvent × ℕ)) (s t : Seen) (fault : TraceFault)
+        → HasRead trace handed s → Reads s (Err fault) t → IsMemoryOr fault (Ends trace (Err fault)) }
+    ensures finishes { (trace : List ℕ) (handed : List (TraceEvent × ℕ)) (s : Seen) (answer : Result Unit TraceFault)
+        → HasRead trace handed s → Finishes s answer → Ends trace answer }
 {}

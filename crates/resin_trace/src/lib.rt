@@ -1,4 +1,9 @@
 //! Recorded traffic: the records of a trace as it comes in pieces, and the streams of its connections.
+//!
+//! `specs/Records.antt` says which bytes are a record and what it says, and `specs/Verdicts.antt` how a whole trace ends. A `TraceReader` hands out
+//! the records of all bytes that it was fed, in order and each once, wherever the pieces were cut (`specs/Reads.antt`, `Seen.antt`), and its faults
+//! are those of the trace; `trace_laws` and `reader_laws` say that it can read a trace in one way. `Connections` keeps what waits on each
+//! connection (`specs/Lines.antt`).
 #![tactic(auto)]
 
 mod connections;

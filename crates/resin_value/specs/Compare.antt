@@ -86,7 +86,8 @@ abbrev pub with_value : {E : Type 0} → Option Tree → ℕ → (Tree → Charg
 with_value None n same = (Ok false, n)
 with_value (Some u) n same = same u
 
--- `==` with so many ticks: two arrays are equal where they have as many entries and each pair of values is; the pairs are taken in the left one's order
+-- `==` with so many ticks: two arrays are equal where they have as many entries and each pair of values is; the pairs are taken in the left one's
+-- order
 abbrev mutual
   pub equal_trees : Tree → Tree → ℕ → Charged CompareFault
   equal_trees (array r l h) (array s m g) n = if length (entries_of r) == length (entries_of s) then equal_rows r (entries_of s) n else (Ok false, n)

@@ -73,9 +73,9 @@ fn identical_entries(x: &Entries, y: &Entries, t: &mut Ticks) -> Result<bool, Sp
     Ok(true)
 }
 
-/// Whether two values are equal (`==`). Two arrays with as many entries cost one tick for each pair that is looked at; `Spent` comes exactly where none
-/// is left for the next one, `Object` exactly where an object meets another object, an array or a scalar other than null and booleans, `Float` exactly
-/// where two numbers were to be compared and one is a text in a float form; `Operand` never comes.
+/// Whether two values are equal (`==`). Two arrays with as many entries cost one tick for each pair that is looked at; `Spent` comes exactly
+/// where none is left for the next one, `Object` exactly where an object meets another object, an array or a scalar other than null and booleans,
+/// `Float` exactly where two numbers were to be compared and one is a text in a float form; `Operand` never comes.
 #[cycle(equal)]
 pub fn equal(a: &Value, b: &Value, t: &mut Ticks) -> Result<bool, CompareFault>
     ensures answer { result ≡ (equal_trees (tree_of a.now) (tree_of b.now) t.old.left).0 }
@@ -121,9 +121,9 @@ fn equal_apart(a: &Value, b: &Value) -> Result<bool, CompareFault>
     }
 }
 
-/// The order of two values (`<`, `<=>`). It costs nothing, since arrays have no order. `Object` comes exactly where an object meets another object, an array
-/// or a scalar other than null and booleans, `Operand` exactly where an array meets an array or such a scalar, `Float` exactly where two numbers were to be
-/// compared and one is a text in a float form; `Spent` never comes.
+/// The order of two values (`<`, `<=>`). It costs nothing, since arrays have no order. `Object` comes exactly where an object meets another
+/// object, an array or a scalar other than null and booleans, `Operand` exactly where an array meets an array or such a scalar, `Float` exactly
+/// where two numbers were to be compared and one is a text in a float form; `Spent` never comes.
 pub fn order(a: &Value, b: &Value, t: &mut Ticks) -> Result<Ordering, CompareFault>
     ensures answer { result ≡ order_trees (tree_of a.now) (tree_of b.now) }
     ensures charged { t.new.left ≡ t.old.left }

@@ -1,4 +1,9 @@
 //! Values of the script language: scalars, labelled texts, and ordered arrays that are shared until they are written.
+//!
+//! Contracts see a value as a tree without sharing (`specs/Trees.antt`, `Seen.antt`), and an array as its entries in order with the largest integer
+//! key ever used and its height (`specs/Arrays.antt`). Each look-up and change gives exactly what the rules of arrays say (`specs/Keys.antt`,
+//! `Changes.antt`), and each comparison what PHP's tables say without floats (`specs/Compare.antt`); `array_laws` says what these rules come to
+//! (`specs/Laws.antt`). The module `under` passes on what values stand on.
 #![tactic(auto)]
 
 mod compare;

@@ -3,8 +3,8 @@ use Rattle.resin_lstr.proofs.Rows.{rows_more, rows_front}
 use Rattle.resin_escape_fn.specs.Rules.{rule_of}
 use Rattle.resin_escape_fn.proofs.escape.Escape.push_all.Goals as goal
 
-pub returns-then-len-gt-MAX_LEN-clause-too_long : goal.returns-then-len-gt-MAX_LEN-clause-too_long
-returns-then-len-gt-MAX_LEN-clause-too_long c = λ _.
+pub returns-then-len-gt-LONGEST-clause-too_long : goal.returns-then-len-gt-LONGEST-clause-too_long
+returns-then-len-gt-LONGEST-clause-too_long c = λ _.
     let f = rule_of c.args.self in
     let k = c.loop-byte.byte-index in
     omega (

@@ -3,8 +3,8 @@ use Rattle.resin_lstr.specs.Tables.{replacement}
 use Rattle.resin_lstr.proofs.Rows.{rows_more, rows_front}
 use Rattle.resin_lstr.proofs.table.ByteTable.push_rows.Goals as goal
 
-pub returns-then-len-gt-MAX_LEN-clause-too_long : goal.returns-then-len-gt-MAX_LEN-clause-too_long
-returns-then-len-gt-MAX_LEN-clause-too_long c = λ _.
+pub returns-then-len-gt-LONGEST-clause-too_long : goal.returns-then-len-gt-LONGEST-clause-too_long
+returns-then-len-gt-LONGEST-clause-too_long c = λ _.
     let f = replacement c.args.self.now in
     let k = c.loop-byte.byte-index in
     omega (

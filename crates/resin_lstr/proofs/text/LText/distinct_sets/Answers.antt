@@ -1,4 +1,5 @@
-use Rattle.std.proofs.Common.{ap, ◌∙◌, sym}
+use Rattle.std.proofs.Common.{◌≡◌, ap, ◌∙◌, sym, subst}
+use Rattle.std.specs.Prelude.{IfOk}
 use Rattle.resin_label.specs.Sets.{same}
 use Rattle.resin_lstr.specs.Texts.{distinct, sets_of}
 use Rattle.resin_lstr.specs.Runs.{spell}
@@ -7,5 +8,5 @@ use Rattle.resin_lstr.proofs.text.LText.distinct_sets.Goals as goal
 
 pub returns : goal.returns
 returns c =
-    c.from_vec.ensures ∙ c.in_ok-sets_once.ensures
-    ∙ ap (distinct same) (ap (spell 0) c.deref.ensures.value ∙ sym (sets_text _ _ c.self.invariant) ∙ ap sets_of c.self.view_is)
+    let is = ap (distinct same) (ap (spell 0) c.deref.ensures.value ∙ sym (sets_text _ _ c.self.invariant) ∙ ap sets_of c.self.view_is) in
+    subst (λ ss. IfOk c.sets_once.result (λ sets. sets ≡ ss)) is c.sets_once.ensures

@@ -1,5 +1,5 @@
-use Rattle.std.proofs.Common.{ap, ◌∙◌, sym}
-use Rattle.std.specs.Prelude.{nat_eq}
+use Rattle.std.proofs.Common.{◌≡◌, ap, ◌∙◌, sym, subst}
+use Rattle.std.specs.Prelude.{nat_eq, IfOk}
 use Rattle.std.specs.List.{flat_map}
 use Rattle.resin_label.specs.Sets.{numbers}
 use Rattle.resin_lstr.specs.Texts.{distinct, sets_of}
@@ -9,5 +9,5 @@ use Rattle.resin_lstr.proofs.text.LText.policies_in_order.Goals as goal
 
 pub returns : goal.returns
 returns c =
-    c.from_vec.ensures ∙ c.in_ok-numbers_once.ensures
-    ∙ ap (λ ss. distinct nat_eq (flat_map numbers ss)) (ap (spell 0) c.deref.ensures.value ∙ sym (sets_text _ _ c.self.invariant) ∙ ap sets_of c.self.view_is)
+    let is = ap (spell 0) c.deref.ensures.value ∙ sym (sets_text _ _ c.self.invariant) ∙ ap sets_of c.self.view_is in
+    subst (λ ss. IfOk c.numbers_once.result (λ list. list ≡ distinct nat_eq (flat_map numbers ss))) is c.numbers_once.ensures

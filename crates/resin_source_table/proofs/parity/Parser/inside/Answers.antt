@@ -1,6 +1,6 @@
 use Rattle.std.proofs.Common.{◌-◌, arith}
-use Rattle.resin_form.proofs.Inside.{inside}
-use Rattle.resin_form.proofs.parity.Parser.inside.Goals as goal
+use Rattle.resin_source_table.proofs.Inside.{inside}
+use Rattle.resin_source_table.proofs.parity.Parser.inside.Goals as goal
 
 pub returns : goal.returns
 returns g c =

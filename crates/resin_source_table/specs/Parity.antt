@@ -7,10 +7,10 @@ use Rattle.resin_form.specs.Meaning.{allows_at, always, reading, IsRead, IsRefus
 use Rattle.resin_form.specs.Reads.{Reads}
 use Rattle.resin_form.specs.declared.fault.Fault.{Fault}
 use Rattle.resin_form.specs.declared.fault.Fault.TheVariants.{Syntax, TooDeep, Memory}
-use Rattle.resin_form.specs.declared.parity.Sign.{Sign}
-use Rattle.resin_form.specs.declared.parity.Sign.TheVariants.{One, Plus, Not, Open, Close}
-use Rattle.resin_form.specs.declared.parity.Construct.{Construct}
-use Rattle.resin_form.specs.declared.parity.Construct.TheVariants.{Bracketed, Negated}
+use Rattle.resin_source_table.specs.declared.parity.Sign.{Sign}
+use Rattle.resin_source_table.specs.declared.parity.Sign.TheVariants.{One, Plus, Not, Open, Close}
+use Rattle.resin_source_table.specs.declared.parity.Construct.{Construct}
+use Rattle.resin_source_table.specs.declared.parity.Construct.TheVariants.{Bracketed, Negated}
 
 -- Each construct is a name of the grammar and gives whether it is odd.
 abbrev pub Value : Construct → Type 0
@@ -99,6 +99,8 @@ body Bracketed = bracketed
 body Negated = entered
 
 -- a function value that reads the inside of a construct, where fewer constructs than the bound may still open in it
-pub record Nests (bound : ℕ) (pre : MutBor (List Sign) → Construct → ℕ → Type 0) (post : MutBor (List Sign) → Construct → ℕ → Result Bool Fault → MutBor (List Sign) → Type 0) : Type 0 where
+pub record Nests (bound : ℕ) (pre : MutBor (List Sign) → Construct → ℕ → Type 0)
+    (post : MutBor (List Sign) → Construct → ℕ → Result Bool Fault → MutBor (List Sign) → Type 0) : Type 0 where
   pub callable : (old : MutBor (List Sign)) (n : Construct) (depth : ℕ) → depth < bound → pre old n depth
-  pub reads : (old new : MutBor (List Sign)) (n : Construct) (depth : ℕ) (r : Result Bool Fault) → depth < bound → post old n depth r new → Reads (under depth (body n) old.now) r new.now
+  pub reads : (old new : MutBor (List Sign)) (n : Construct) (depth : ℕ) (r : Result Bool Fault) → depth < bound → post old n depth r new
+      → Reads (under depth (body n) old.now) r new.now

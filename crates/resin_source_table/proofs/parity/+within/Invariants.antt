@@ -1,4 +1,4 @@
-use Rattle.resin_form.proofs.parity.+within.Given as goal
+use Rattle.resin_source_table.proofs.parity.+within.Given as goal
 
 abbrev pub decreases-within : goal.decreases-within
 decreases-within l = l.depth

@@ -3,13 +3,12 @@
 ghost use Rattle.std.specs.Prelude.{◌≡◌, ◌<◌, suc, Bool, List, ◌++◌};
 ghost use Rattle.resin_form.specs.Meaning.{IsFront, IsTree, allows_at, always, reading};
 ghost use Rattle.resin_form.specs.Reading.{read};
-ghost use Rattle.resin_form.specs.Parity as spec;
-ghost use Rattle.resin_form.specs.Parity.{Gives, Nests, behind, under};
-ghost use Rattle.resin_form.specs.declared.parity.Construct.TheVariants.{Negated};
+ghost use Rattle.resin_source_table.specs.Parity as spec;
+ghost use Rattle.resin_source_table.specs.Parity.{Gives, Nests, behind, under};
+ghost use Rattle.resin_source_table.specs.declared.parity.Construct.TheVariants.{Negated};
 ghost use Rattle.resin_form.specs.Reads.{Reads};
 
-use crate::cursor::Cursor;
-use crate::fault::Fault;
+use resin_form::{Cursor, Fault};
 
 /// A sign of a sum.
 #[derive(Clone, Copy, Debug, PartialEq, Eq)]

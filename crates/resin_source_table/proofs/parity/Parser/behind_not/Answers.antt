@@ -1,9 +1,9 @@
 use Rattle.std.proofs.Common.{suc, sym, subst}
 use Rattle.resin_form.specs.Meaning.{always, reading}
-use Rattle.resin_form.specs.Parity.{rules}
+use Rattle.resin_source_table.specs.Parity.{rules}
 use Rattle.resin_form.specs.Reads.{Reads}
-use Rattle.resin_form.specs.declared.parity.Construct.TheVariants.{Negated}
-use Rattle.resin_form.proofs.parity.Parser.behind_not.Goals as goal
+use Rattle.resin_source_table.specs.declared.parity.Construct.TheVariants.{Negated}
+use Rattle.resin_source_table.proofs.parity.Parser.behind_not.Goals as goal
 
 pub returns-then-self-eq0 : goal.returns-then-self-eq0
 unfolding reading

@@ -1,7 +1,7 @@
 use Rattle.std.proofs.Common.{◌≡◌, length}
-use Rattle.resin_form.specs.Parity as spec
-use Rattle.resin_form.specs.Parity.{under}
-use Rattle.resin_form.proofs.parity.Parser.more.Given as goal
+use Rattle.resin_source_table.specs.Parity as spec
+use Rattle.resin_source_table.specs.Parity.{under}
+use Rattle.resin_source_table.proofs.parity.Parser.more.Given as goal
 
 -- what is still to be read comes to what the whole loop does
 abbrev pub invariant-turns : goal.invariant-turns

@@ -1,12 +1,12 @@
 -- What a construct of the example stands for, where there is room for it.
 use Rattle.std.proofs.Common.{◌≡◌, ℕ, suc, ◌+◌, Bool, List, Result, subst, arith}
 use Rattle.resin_form.specs.Meaning.{always, reading}
-use Rattle.resin_form.specs.Parity.{body, rules, under}
+use Rattle.resin_source_table.specs.Parity.{body, rules, under}
 use Rattle.resin_form.specs.Reads.{Reads}
 use Rattle.resin_form.specs.declared.fault.Fault.{Fault}
-use Rattle.resin_form.specs.declared.parity.Sign.{Sign}
-use Rattle.resin_form.specs.declared.parity.Construct.{Construct}
-use Rattle.resin_form.specs.declared.parity.Construct.TheVariants.{Bracketed, Negated}
+use Rattle.resin_source_table.specs.declared.parity.Sign.{Sign}
+use Rattle.resin_source_table.specs.declared.parity.Construct.{Construct}
+use Rattle.resin_source_table.specs.declared.parity.Construct.TheVariants.{Bracketed, Negated}
 
 begun : (depth : ℕ) (n : Construct) (ts new : List Sign) (r : Result Bool Fault) → Reads (under depth (body n) ts) r new → Reads (reading rules always (suc (suc depth)) n ts) r new
 unfolding reading

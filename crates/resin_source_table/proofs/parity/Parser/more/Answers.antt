@@ -2,10 +2,10 @@ use Rattle.std.proofs.Common.{◌≡◌, suc, true, Some, None, rules}
 use Rattle.std.proofs.lemmas.Result.{err_from_is_err_and}
 use Rattle.resin_form.specs.Form.{taken}
 use Rattle.resin_form.specs.Meaning.{always}
-use Rattle.resin_form.specs.Parity as spec
-use Rattle.resin_form.specs.Parity.{under}
+use Rattle.resin_source_table.specs.Parity as spec
+use Rattle.resin_source_table.specs.Parity.{under}
 use Rattle.resin_form.proofs.Turns.{smaller, goes_on, fails, ends}
-use Rattle.resin_form.proofs.parity.Parser.more.Goals as goal
+use Rattle.resin_source_table.proofs.parity.Parser.more.Goals as goal
 
 pub returns-in_err-odd : goal.returns-in_err-odd
 unfolding spec.more

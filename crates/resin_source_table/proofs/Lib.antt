@@ -1,0 +1,2 @@
+mod Gives
+mod Inside
