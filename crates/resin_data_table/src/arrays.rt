@@ -3,20 +3,20 @@
 use crate::stop::push_array_fault;
 use crate::values::{key_in, push_key, push_value, value_in};
 use resin_ops::under::value::{Arr, ArrFault, Key, Value};
-use resin_table_rows::{Line, Row, count_in, cut, number_in};
+use resin_table_rows::{Line, Row, cut};
 use std::alloc::{AllocError, Global};
 
 // The array that the calls are made on, and one that is kept aside.
-struct Pair {
-    alloc: Global,
+struct Pair<'a> {
+    row: Row<'a>,
     array: Arr,
     aside: Arr,
 }
 
-impl Drop for Pair {
+impl Drop for Pair<'_> {
     fn drop(self) {
         let Pair {
-            alloc: _,
+            row: _,
             array: _,
             aside: _,
         } = self;
@@ -34,22 +34,18 @@ pub fn call(row: Row<'_>, out: &mut Line) -> bool {
 }
 
 fn push_script(row: Row<'_>, out: &mut Line) -> Result<(), AllocError> {
-    let mut pair = Pair::new(row.alloc)?;
+    let mut pair = Pair::new(row)?;
     for step in row.fields_from(1) {
         pair.take(out, step);
     }
     Ok(())
 }
 
-impl Pair {
-    fn new(alloc: Global) -> Result<Pair, AllocError> {
-        let array = Arr::new(alloc)?;
-        let aside = Arr::new(alloc)?;
-        Ok(Pair {
-            alloc,
-            array,
-            aside,
-        })
+impl<'a> Pair<'a> {
+    fn new(row: Row<'a>) -> Result<Pair<'a>, AllocError> {
+        let array = Arr::new(row.alloc)?;
+        let aside = Arr::new(row.alloc)?;
+        Ok(Pair { row, array, aside })
     }
 
     fn take(&mut self, out: &mut Line, step: &str) {
@@ -68,7 +64,7 @@ impl Pair {
             "is_empty" => out.push_truth(self.array.is_empty()),
             "height" => write!(out, " {}", self.array.height()),
             "next_key" => push_next_key(out, &self.array),
-            "key_at" => push_key_at(out, &self.array, count_in(rest) as usize),
+            "key_at" => push_key_at(out, &self.array, self.row.count_in(rest) as usize),
             _ => return false,
         }
         true
@@ -77,8 +73,8 @@ impl Pair {
     // Looks at a key, or takes it out; `false` where the name is none.
     fn look(&mut self, out: &mut Line, name: &str, rest: &str) -> bool {
         let done = match name {
-            "get" => push_at(self.alloc, out, &self.array, rest),
-            "get_aside" => push_at(self.alloc, out, &self.aside, rest),
+            "get" => push_at(self.row, out, &self.array, rest),
+            "get_aside" => push_at(self.row, out, &self.aside, rest),
             "remove" => self.remove(out, rest),
             _ => return false,
         };
@@ -87,7 +83,7 @@ impl Pair {
     }
 
     fn remove(&mut self, out: &mut Line, key: &str) -> Result<(), AllocError> {
-        let key = key_in(self.alloc, key)?;
+        let key = key_in(self.row, key)?;
         out.push_truth(self.array.remove(&key)?);
         Ok(())
     }
@@ -104,7 +100,7 @@ impl Pair {
                 Ok(())
             }
             _ => {
-                self.array = made(self.alloc, name, rest)?;
+                self.array = made(self.row, name, rest)?;
                 Ok(())
             }
         }
@@ -112,19 +108,19 @@ impl Pair {
 
     fn put(&mut self, rest: &str) -> Result<(), ArrFault> {
         let (key, value) = cut(rest, ' ');
-        let value = value_in(self.alloc, value)?;
-        let key = key_in(self.alloc, key)?;
+        let value = value_in(self.row, value)?;
+        let key = key_in(self.row, key)?;
         put(&mut self.array, &key, value)
     }
 
     fn append(&mut self, rest: &str) -> Result<(), ArrFault> {
-        let value = value_in(self.alloc, rest)?;
+        let value = value_in(self.row, rest)?;
         self.array.append(value)
     }
 
     fn put_aside(&mut self, key: &str) -> Result<(), ArrFault> {
         let value = Value::Arr(self.aside.clone()?);
-        let key = key_in(self.alloc, key)?;
+        let key = key_in(self.row, key)?;
         put(&mut self.array, &key, value)
     }
 
@@ -155,8 +151,8 @@ fn push_key_at(out: &mut Line, array: &Arr, i: usize) {
     }
 }
 
-fn push_at(alloc: Global, out: &mut Line, array: &Arr, key: &str) -> Result<(), AllocError> {
-    let key = key_in(alloc, key)?;
+fn push_at(row: Row<'_>, out: &mut Line, array: &Arr, key: &str) -> Result<(), AllocError> {
+    let key = key_in(row, key)?;
     match array.get(&key) {
         Some(value) => push_value(out, value),
         None => out.push_word("none"),
@@ -165,11 +161,11 @@ fn push_at(alloc: Global, out: &mut Line, array: &Arr, key: &str) -> Result<(), 
 }
 
 // The array that a step makes anew.
-fn made(alloc: Global, name: &str, rest: &str) -> Result<Arr, ArrFault> {
+fn made(row: Row<'_>, name: &str, rest: &str) -> Result<Arr, ArrFault> {
     match name {
-        "tower" => tower(alloc, number_in(rest)),
-        "doubled" => doubled(alloc, number_in(rest)),
-        _ => Ok(Arr::new(alloc)?),
+        "tower" => tower(row.alloc, row.number_in(rest)),
+        "doubled" => doubled(row.alloc, row.number_in(rest)),
+        _ => Ok(Arr::new(row.alloc)?),
     }
 }
 

@@ -35,8 +35,8 @@ fn call_on_names(row: Row<'_>, out: &mut Line) -> bool {
 }
 
 fn push_compared(row: Row<'_>, out: &mut Line) -> Result<(), AllocError> {
-    let a = value_in(row.alloc, row.field(1))?;
-    let b = value_in(row.alloc, row.field(2))?;
+    let a = value_in(row, row.field(1))?;
+    let b = value_in(row, row.field(2))?;
     if row.field(0) == "compare" {
         push_comparisons(out, &a, &b);
     } else {
@@ -91,7 +91,7 @@ fn fault_name(fault: CompareFault) -> &'static str {
 
 // Whether a copy is identical without a tick, and the copy with its labels.
 fn push_copied(row: Row<'_>, out: &mut Line) -> Result<(), AllocError> {
-    let value = value_in(row.alloc, row.field(1))?;
+    let value = value_in(row, row.field(1))?;
     let copy = value.clone()?;
     push_identical(out, identical(&copy, &value, &mut Ticks { left: 0 }));
     push_value(out, &copy);
@@ -101,7 +101,7 @@ fn push_copied(row: Row<'_>, out: &mut Line) -> Result<(), AllocError> {
 fn values_of(row: Row<'_>) -> Result<Values, AllocError> {
     let mut values = Values::new(row.alloc);
     for field in row.fields_from(1) {
-        values.push(value_in(row.alloc, field)?)?;
+        values.push(value_in(row, field)?)?;
     }
     Ok(values)
 }
@@ -151,7 +151,7 @@ fn push_key_text(row: Row<'_>, out: &mut Line) -> Result<(), AllocError> {
 }
 
 fn push_key_copy(row: Row<'_>, out: &mut Line) -> Result<(), AllocError> {
-    let key = key_in(row.alloc, row.field(1))?;
+    let key = key_in(row, row.field(1))?;
     out.push_truth(key.same(&key.clone()?));
     Ok(())
 }

@@ -23,6 +23,7 @@ mod values;
 
 use resin_table_rows::{Line, Row, split_row};
 use std::alloc::{AllocError, Global};
+use std::cell::Cell;
 use std::io;
 
 // Puts the answer of a call last.
@@ -42,14 +43,19 @@ fn push_answer(row: Row<'_>, out: &mut Line) {
 // Puts the answer of a row behind it.
 fn push_row(alloc: Global, row: &str, out: &mut Line) -> Result<(), AllocError> {
     let fields = split_row(alloc, row)?;
+    let is_unreadable = Cell::new(false);
     out.push_str(" =");
     push_answer(
         Row {
             alloc,
             fields: &fields,
+            is_unreadable: &is_unreadable,
         },
         out,
     );
+    if is_unreadable.get() {
+        out.push_word("Unreadable");
+    }
     Ok(())
 }
 

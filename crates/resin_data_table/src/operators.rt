@@ -44,7 +44,7 @@ fn push_converted_to(out: &mut Line, number: Result<i64, ScriptFault>) -> Result
 }
 
 fn push_converted(row: Row<'_>, out: &mut Line) -> Result<(), CallStop> {
-    let value = value_in(row.alloc, row.field(1))?;
+    let value = value_in(row, row.field(1))?;
     match row.field(0) {
         "to_text" => push_as_text(row.alloc, out, &value),
         "to_number" => push_converted_to(out, to_number(&value)),
@@ -73,6 +73,6 @@ fn push_indexed(row: Row<'_>, out: &mut Line) -> Result<(), CallStop> {
 
 fn part_in(row: Row<'_>) -> Result<Value, CallStop> {
     let text = text_in(row.alloc, row.field(1))?;
-    let key = key_in(row.alloc, row.field(2))?;
+    let key = key_in(row, row.field(2))?;
     index_text(row.alloc, &text, &key)
 }

@@ -5,7 +5,7 @@ use resin_ops::under::scalar::{
     CallStop, ErrorKind, NumFault, Scalar, ScriptFault, Spent, Ticks, cast_int, compare, number,
     truth,
 };
-use resin_table_rows::{Line, Row, bytes_in, integer_in, number_in};
+use resin_table_rows::{Line, Row, bytes_in};
 use std::alloc::{AllocError, Global};
 use std::cmp::Ordering;
 
@@ -38,20 +38,20 @@ fn inside(alloc: Global, field: &str) -> Result<Option<Vec<u8>>, AllocError> {
 }
 
 // The scalar that a field spells, a text with the bytes that were read.
-fn scalar_in<'a>(field: &str, text: &'a Option<Vec<u8>>) -> Scalar<'a> {
-    match (text, field) {
+fn scalar_in<'a>(row: Row<'_>, i: usize, text: &'a Option<Vec<u8>>) -> Scalar<'a> {
+    match (text, row.field(i)) {
         (Some(bytes), _) => Scalar::Text(bytes),
         (None, "null") => Scalar::Null,
         (None, "true") => Scalar::Bool(true),
         (None, "false") => Scalar::Bool(false),
-        _ => Scalar::Int(integer_in(field)),
+        _ => Scalar::Int(row.integer(i)),
     }
 }
 
 // A scalar as a boolean, as a number in arithmetic and by `(int)`.
 fn push_conversions(row: Row<'_>, out: &mut Line) -> Result<(), AllocError> {
     let text = inside(row.alloc, row.field(1))?;
-    let scalar = scalar_in(row.field(1), &text);
+    let scalar = scalar_in(row, 1, &text);
     out.push_truth(truth(&scalar));
     push_number(out, number(&scalar));
     push_number(out, cast_int(&scalar));
@@ -69,11 +69,7 @@ fn push_number(out: &mut Line, n: Result<i64, NumFault>) {
 fn push_comparison(row: Row<'_>, out: &mut Line) -> Result<(), AllocError> {
     let left = inside(row.alloc, row.field(1))?;
     let right = inside(row.alloc, row.field(2))?;
-    push_order(
-        out,
-        &scalar_in(row.field(1), &left),
-        &scalar_in(row.field(2), &right),
-    );
+    push_order(out, &scalar_in(row, 1, &left), &scalar_in(row, 2, &right));
     Ok(())
 }
 
@@ -106,7 +102,7 @@ fn push_spent(row: Row<'_>, out: &mut Line) {
         left: u64::from(row.number(1)),
     };
     for step in row.fields_from(2) {
-        let spent = ticks.spend(u64::from(number_in(step)));
+        let spent = ticks.spend(u64::from(row.number_in(step)));
         push_left(out, spent, ticks.left);
     }
 }

@@ -4,7 +4,7 @@ ghost use Rattle.std.specs.Prelude.{◌≤◌, length};
 use crate::fields::{push_set, push_text, set_in, text_in};
 use crate::stop::push_text_fault;
 use resin_ops::under::lstr::{Builder, ByteTable, LText, Numbers, Parts, Sets, TextFault, Texts};
-use resin_table_rows::{Line, Row, bytes_in, count_in, cut, number_in};
+use resin_table_rows::{Line, Row, bytes_in, cut};
 use std::alloc::{AllocError, Global};
 
 /// Puts the answers of calls on a text, or what a list of the fields holds, last; `false` where the name is none.
@@ -29,14 +29,14 @@ fn call_on_list(row: Row<'_>, out: &mut Line) -> bool {
 }
 
 // A text that goes through steps.
-struct Stepped {
-    alloc: Global,
+struct Stepped<'a> {
+    row: Row<'a>,
     text: LText,
 }
 
-impl Drop for Stepped {
+impl Drop for Stepped<'_> {
     fn drop(self) {
-        let Stepped { alloc: _, text: _ } = self;
+        let Stepped { row: _, text: _ } = self;
     }
 }
 
@@ -48,17 +48,14 @@ fn plain(alloc: Global, field: &str) -> Result<LText, TextFault> {
 // Makes the text of the first field's bytes, and takes it through the steps.
 fn push_script(row: Row<'_>, out: &mut Line) -> Result<(), TextFault> {
     let text = plain(row.alloc, row.field(1))?;
-    let mut stepped = Stepped {
-        alloc: row.alloc,
-        text,
-    };
+    let mut stepped = Stepped { row, text };
     for step in row.fields_from(2) {
         stepped.take(out, step)?;
     }
     Ok(())
 }
 
-impl Stepped {
+impl Stepped<'_> {
     fn take(&mut self, out: &mut Line, step: &str) -> Result<(), TextFault> {
         let (name, rest) = cut(step, ' ');
         if !self.tell(out, name, rest) {
@@ -73,9 +70,9 @@ impl Stepped {
             "show" => push_shown(out, &self.text),
             "len" => out.push_count(self.text.len()),
             "run_count" => out.push_count(self.text.run_count()),
-            "first_run_of" => push_range(out, self.text.first_run_of(number_in(rest))),
-            "policies_in_order" => push_numbers(out, self.text.policies_in_order(self.alloc)),
-            "distinct_sets" => push_sets(out, self.text.distinct_sets(self.alloc)),
+            "first_run_of" => push_range(out, self.text.first_run_of(self.row.number_in(rest))),
+            "policies_in_order" => push_numbers(out, self.text.policies_in_order(self.row.alloc)),
+            "distinct_sets" => push_sets(out, self.text.distinct_sets(self.row.alloc)),
             _ => return false,
         }
         true
@@ -85,8 +82,8 @@ impl Stepped {
     fn changed(&self, name: &str, rest: &str) -> Result<LText, TextFault> {
         match name {
             "concat" => self.with_behind(rest),
-            "concat_itself" => self.text.concat(self.alloc, &self.text),
-            "letters" => letters(self.alloc, count_in(rest) as usize),
+            "concat_itself" => self.text.concat(self.row.alloc, &self.text),
+            "letters" => letters(self.row.alloc, self.row.count_in(rest) as usize),
             "replace_bytes" => self.with_byte(rest),
             "replace_part" => self.with_part(rest),
             _ => Ok(self.relabelled(name, rest)?),
@@ -95,41 +92,41 @@ impl Stepped {
 
     fn relabelled(&self, name: &str, rest: &str) -> Result<LText, AllocError> {
         match name {
-            "mark" => self.text.mark(self.alloc, number_in(rest)),
-            "unmark" => self.text.unmark(self.alloc, number_in(rest)),
-            "upper_case" => self.text.map_bytes(self.alloc, &upper_case()),
+            "mark" => self.text.mark(self.row.alloc, self.row.number_in(rest)),
+            "unmark" => self.text.unmark(self.row.alloc, self.row.number_in(rest)),
+            "upper_case" => self.text.map_bytes(self.row.alloc, &upper_case()),
             "slice" => self.part(rest),
             _ => self.text.clone(),
         }
     }
 
     fn with_behind(&self, field: &str) -> Result<LText, TextFault> {
-        let more = text_in(self.alloc, field)?;
-        self.text.concat(self.alloc, &more)
+        let more = text_in(self.row.alloc, field)?;
+        self.text.concat(self.row.alloc, &more)
     }
 
     // The text with its bytes that the first field names replaced by the second.
     fn with_byte(&self, rest: &str) -> Result<LText, TextFault> {
         let (byte, with) = cut(rest, ' ');
         let byte = byte.as_bytes().first().copied().unwrap_or(0);
-        let table = table_with(self.alloc, byte, with)?;
-        self.text.replace_bytes(self.alloc, &table)
+        let table = table_with(self.row.alloc, byte, with)?;
+        self.text.replace_bytes(self.row.alloc, &table)
     }
 
     // The text from a start to an end, which a step names.
     fn part(&self, part: &str) -> Result<LText, AllocError> {
-        let (from, to) = part_in(&self.text, part);
-        self.text.slice(self.alloc, from, to)
+        let (from, to) = part_in(self.row, &self.text, part);
+        self.text.slice(self.row.alloc, from, to)
     }
 
     // The text with a part replaced.
     fn with_part(&self, rest: &str) -> Result<LText, TextFault> {
         let (part, with) = cut(rest, ' ');
-        let with = text_in(self.alloc, with)?;
-        let (from, to) = part_in(&self.text, part);
-        let mut parts = Parts::new(self.alloc);
+        let with = text_in(self.row.alloc, with)?;
+        let (from, to) = part_in(self.row, &self.text, part);
+        let mut parts = Parts::new(self.row.alloc);
         parts.push((from, to))?;
-        self.text.replace_parts(self.alloc, &parts, &with)
+        self.text.replace_parts(self.row.alloc, &parts, &with)
     }
 }
 
@@ -186,13 +183,13 @@ fn table_with(alloc: Global, byte: u8, with: &str) -> Result<ByteTable, AllocErr
 }
 
 // The start and the end of a part of the text, as far as it reaches.
-fn part_in(text: &LText, field: &str) -> (usize, usize)
+fn part_in(row: Row<'_>, text: &LText, field: &str) -> (usize, usize)
     ensures ordered { result.0 ≤ result.1 }
     ensures within { result.1 ≤ length text.now }
 {
     let (from, to) = field.split_once("..").unwrap_or((field, ""));
-    let to = (count_in(to) as usize).min(text.len());
-    ((count_in(from) as usize).min(to), to)
+    let to = (row.count_in(to) as usize).min(text.len());
+    ((row.count_in(from) as usize).min(to), to)
 }
 
 // The set that each field spells.
@@ -225,7 +222,7 @@ fn push_texts(row: Row<'_>, out: &mut Line) -> Result<(), TextFault> {
 fn numbers_of(row: Row<'_>) -> Result<Numbers, AllocError> {
     let mut numbers = Numbers::new(row.alloc);
     for field in row.fields_from(1) {
-        numbers.push(number_in(field))?;
+        numbers.push(row.number_in(field))?;
     }
     Ok(numbers)
 }

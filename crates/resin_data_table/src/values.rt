@@ -3,7 +3,7 @@
 use crate::fields::{digits_in, push_bytes, push_set, push_text, text_in};
 use resin_ops::under::lstr::LText;
 use resin_ops::under::value::{Arr, ArrFault, Key, Value};
-use resin_table_rows::{Line, bytes_in, cut, integer_in, number_in};
+use resin_table_rows::{Line, Row, bytes_in, cut};
 use std::alloc::{AllocError, Global};
 
 // An array under way, and the key of its next value.
@@ -34,16 +34,16 @@ impl Open {
 }
 
 // The arrays that are under way, one in another, and the last value that stood in none.
-struct Reader {
-    alloc: Global,
+struct Reader<'a> {
+    row: Row<'a>,
     opened: Vec<Open>,
     read: Value,
 }
 
-impl Drop for Reader {
+impl Drop for Reader<'_> {
     fn drop(self) {
         let Reader {
-            alloc: _,
+            row: _,
             opened: _,
             read: _,
         } = self;
@@ -51,10 +51,10 @@ impl Drop for Reader {
 }
 
 /// The value that a field spells.
-pub fn value_in(alloc: Global, field: &str) -> Result<Value, AllocError> {
+pub fn value_in(row: Row<'_>, field: &str) -> Result<Value, AllocError> {
     let mut reader = Reader {
-        alloc,
-        opened: Vec::new(alloc),
+        row,
+        opened: Vec::new(row.alloc),
         read: Value::Null,
     };
     for token in field.split(' ') {
@@ -63,10 +63,10 @@ pub fn value_in(alloc: Global, field: &str) -> Result<Value, AllocError> {
     Ok(reader.into_value())
 }
 
-impl Reader {
+impl Reader<'_> {
     fn into_value(self) -> Value {
         let Reader {
-            alloc: _,
+            row: _,
             opened: _,
             read,
         } = self;
@@ -85,12 +85,12 @@ impl Reader {
         if let Some(key) = token.strip_suffix(':') {
             return self.set_key(key);
         }
-        let value = scalar_in(self.alloc, token)?;
+        let value = scalar_in(self.row, token)?;
         self.put(value)
     }
 
     fn open(&mut self) -> Result<(), AllocError> {
-        let array = Arr::new(self.alloc)?;
+        let array = Arr::new(self.row.alloc)?;
         self.opened.push(Open { array, key: None })?;
         Ok(())
     }
@@ -103,7 +103,7 @@ impl Reader {
     }
 
     fn set_key(&mut self, token: &str) -> Result<(), AllocError> {
-        let key = key_in(self.alloc, token)?;
+        let key = key_in(self.row, token)?;
         if let Some(open) = self.opened.last_mut() {
             open.key = Some(key);
         }
@@ -123,39 +123,44 @@ impl Reader {
     }
 }
 
-fn scalar_in(alloc: Global, token: &str) -> Result<Value, AllocError> {
+fn scalar_in(row: Row<'_>, token: &str) -> Result<Value, AllocError> {
     match token {
         "null" => Ok(Value::Null),
         "true" => Ok(Value::Bool(true)),
         "false" => Ok(Value::Bool(false)),
-        _ => written_in(alloc, token),
+        _ => written_in(row, token),
     }
 }
 
 // A text, an object, or an integer with its set.
-fn written_in(alloc: Global, token: &str) -> Result<Value, AllocError> {
+fn written_in(row: Row<'_>, token: &str) -> Result<Value, AllocError> {
     if let Some(number) = token.strip_prefix('#') {
-        return Ok(Value::Obj(number_in(number)));
+        return Ok(Value::Obj(row.number_in(number)));
     }
     match token.strip_prefix('\'') {
-        Some(text) => Ok(Value::Text(text_in(alloc, text.strip_suffix('\'').unwrap_or(text))?)),
-        None => labelled_in(alloc, token),
+        Some(text) => quoted_in(row.alloc, text),
+        None => labelled_in(row, token),
     }
 }
 
-fn labelled_in(alloc: Global, token: &str) -> Result<Value, AllocError> {
+fn quoted_in(alloc: Global, text: &str) -> Result<Value, AllocError> {
+    let text = text_in(alloc, text.strip_suffix('\'').unwrap_or(text))?;
+    Ok(Value::Text(text))
+}
+
+fn labelled_in(row: Row<'_>, token: &str) -> Result<Value, AllocError> {
     let (number, digits) = cut(token, '{');
-    let set = digits_in(alloc, digits.strip_suffix('}').unwrap_or(digits))?;
-    Ok(Value::Int(integer_in(number), set))
+    let set = digits_in(row.alloc, digits.strip_suffix('}').unwrap_or(digits))?;
+    Ok(Value::Int(row.integer_in(number), set))
 }
 
 /// The key that a field spells: an integer, or what a text between `'` counts as.
-pub fn key_in(alloc: Global, field: &str) -> Result<Key, AllocError> {
+pub fn key_in(row: Row<'_>, field: &str) -> Result<Key, AllocError> {
     let Some(text) = field.strip_prefix('\'') else {
-        return Ok(Key::Int(integer_in(field)));
+        return Ok(Key::Int(row.integer_in(field)));
     };
-    let bytes = bytes_in(alloc, text.strip_suffix('\'').unwrap_or(text))?;
-    Key::from_text(alloc, &bytes)
+    let bytes = bytes_in(row.alloc, text.strip_suffix('\'').unwrap_or(text))?;
+    Key::from_text(row.alloc, &bytes)
 }
 
 /// Puts a key last.

@@ -25,6 +25,7 @@ use resin_stage::under::journal::Journal;
 use resin_stage::under::scope::{Chains, Page, Scopes};
 use resin_table_rows::{Line, Row, split_row};
 use std::alloc::{AllocError, Global};
+use std::cell::Cell;
 use std::io;
 
 /// What the acts act on.
@@ -96,24 +97,24 @@ fn push_act(
     out: &mut Line,
 ) -> Result<(), AllocError> {
     let fields = split_row(alloc, line)?;
+    let is_unreadable = Cell::new(false);
     act(
         state,
         Row {
             alloc,
             fields: &fields,
+            is_unreadable: &is_unreadable,
         },
         out,
     );
+    if is_unreadable.get() {
+        out.push_word("unreadable");
+    }
     Ok(())
 }
 
 /// Begins a new state, or acts on the one that is there.
-fn take(
-    alloc: Global,
-    state: &mut State,
-    line: &str,
-    out: &mut Line,
-) -> Result<(), AllocError> {
+fn take(alloc: Global, state: &mut State, line: &str, out: &mut Line) -> Result<(), AllocError> {
     if is_kind(line) {
         *state = begun(alloc, line)?;
         Ok(())

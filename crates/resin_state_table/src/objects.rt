@@ -1,7 +1,9 @@
 //! Acts on objects, whose fields hold integers.
 ghost use Rattle.resin_heap.specs.Objects.{IsObject};
 
-use crate::answer::{push_found, push_integer, push_missing, push_number, push_truth, push_unknown};
+use crate::answer::{
+    push_found, push_integer, push_missing, push_number, push_truth, push_unknown,
+};
 use resin_heap::under::label::PSet;
 use resin_heap::under::value::Value;
 use resin_heap::{Heap, MOST_OBJECTS};

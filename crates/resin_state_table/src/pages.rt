@@ -64,12 +64,7 @@ fn open(page: &mut Page, text: LText, out: &mut Line) {
     out.note(page.buffers.push(text));
 }
 
-fn buffer_marked(
-    page: &mut Page,
-    row: Row<'_>,
-    marked: Result<LText, AllocError>,
-    out: &mut Line,
-) {
+fn buffer_marked(page: &mut Page, row: Row<'_>, marked: Result<LText, AllocError>, out: &mut Line) {
     if let Some(marked) = out.taken(marked) {
         buffer(page, row, &marked, out);
     }

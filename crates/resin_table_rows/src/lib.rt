@@ -1,8 +1,8 @@
 //! What the programs share that print the answers of other crates, a row a line: the fields of a row, how bytes and numbers are spelled there, and the line
 //! that is printed.
 //!
-//! What prints into a line answers nothing, and what a row has no number for is 0: so the functions of such a program have few ways out, and little is to be
-//! proved of them.
+//! What prints into a line answers nothing, and a field that is no number makes the row unreadable, which is printed behind all else: so the functions of such
+//! a program have few ways out, and little is to be proved of them.
 #![tactic(auto)]
 
 mod line;
@@ -10,5 +10,5 @@ mod row;
 mod spelling;
 
 pub use line::Line;
-pub use row::{Row, count_in, cut, integer_in, number_in, split_row};
+pub use row::{Row, cut, split_row};
 pub use spelling::bytes_in;

@@ -1,12 +1,15 @@
 //! The fields of a row.
 
 use std::alloc::{AllocError, Global};
+use std::cell::Cell;
 
-/// The fields of a row. One that isn't there is empty.
+/// The fields of a row. One that isn't there is empty, and a number that isn't there is 0.
 #[derive(Clone, Copy)]
 pub struct Row<'a> {
     pub alloc: Global,
     pub fields: &'a [&'a str],
+    /// Whether a field that had to be a number was none.
+    pub is_unreadable: &'a Cell<bool>,
 }
 
 impl<'a> Row<'a> {
@@ -27,17 +30,57 @@ impl<'a> Row<'a> {
 
     /// The integer of a field.
     pub fn integer(self, i: usize) -> i64 {
-        integer_in(self.field(i))
+        self.integer_in(self.field(i))
     }
 
     /// The number of a field.
     pub fn number(self, i: usize) -> u32 {
-        number_in(self.field(i))
+        self.number_in(self.field(i))
     }
 
     /// The count of a field.
     pub fn count(self, i: usize) -> u64 {
-        count_in(self.field(i))
+        self.count_in(self.field(i))
+    }
+
+    // A field that spells no number makes the row unreadable, unless it is empty.
+    fn miss(self, field: &str) {
+        if !field.is_empty() {
+            self.is_unreadable.set(true);
+        }
+    }
+
+    /// The integer that a part of the row spells.
+    pub fn integer_in(self, field: &str) -> i64 {
+        match field.parse::<i64>() {
+            Ok(n) => n,
+            Err(_) => {
+                self.miss(field);
+                0
+            }
+        }
+    }
+
+    /// The number that a part of the row spells, as of a policy or of an object.
+    pub fn number_in(self, field: &str) -> u32 {
+        match field.parse::<u32>() {
+            Ok(n) => n,
+            Err(_) => {
+                self.miss(field);
+                0
+            }
+        }
+    }
+
+    /// The count that a part of the row spells.
+    pub fn count_in(self, field: &str) -> u64 {
+        match field.parse::<u64>() {
+            Ok(n) => n,
+            Err(_) => {
+                self.miss(field);
+                0
+            }
+        }
     }
 }
 
@@ -49,19 +92,4 @@ pub fn split_row(alloc: Global, line: &str) -> Result<Vec<&str>, AllocError> {
 /// What stands before a mark, and what stands behind it; nothing does where the mark isn't there.
 pub fn cut(text: &str, mark: char) -> (&str, &str) {
     text.split_once(mark).unwrap_or((text, ""))
-}
-
-/// The integer that a field spells, and 0 where it spells none.
-pub fn integer_in(field: &str) -> i64 {
-    field.parse::<i64>().unwrap_or(0)
-}
-
-/// The number that a field spells, as of a policy or of an object, and 0 where it spells none.
-pub fn number_in(field: &str) -> u32 {
-    field.parse::<u32>().unwrap_or(0)
-}
-
-/// The count that a field spells, and 0 where it spells none.
-pub fn count_in(field: &str) -> u64 {
-    field.parse::<u64>().unwrap_or(0)
 }
