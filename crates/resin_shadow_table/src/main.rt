@@ -22,51 +22,43 @@ mod many;
 mod off;
 mod policies;
 mod shadows;
+mod stop;
 mod values;
 
-use resin_table_rows::{Line, Row, split_row};
+use crate::stop::Stop;
 use std::alloc::{AllocError, Global};
 use std::io;
 
 // Puts the answer of a row last.
-fn push_answer(row: Row<'_>, out: &mut Line) -> Result<(), AllocError> {
-    match row.field(0) {
-        "freeze" => policies::push_frozen(row, out),
-        "thaw" => policies::push_thawed(row, out),
-        "front" => policies::push_front(row, out),
-        "encode" | "runs" => shadows::push_named(row, out),
-        "decode" => shadows::push_decoded(row, out),
-        "off" => off::push_off(row, out),
-        "many" => many::push_many(row, out),
-        _ => {
-            out.push_word("Unreadable");
-            Ok(())
-        }
+fn answer(alloc: Global, out: &mut String, row: &[&str]) -> Result<(), Stop> {
+    let argument = row.get(1).copied().unwrap_or("");
+    let second = row.get(2).copied().unwrap_or("");
+    match row.get(0).copied().unwrap_or("") {
+        "freeze" => policies::push_frozen(alloc, out, argument, row.get(2..).unwrap_or(&[])),
+        "thaw" => policies::push_thawed(alloc, out, argument),
+        "front" => policies::push_front(alloc, out, argument),
+        "encode" => shadows::push_encoded(alloc, out, row.get(1..).unwrap_or(&[])),
+        "runs" => shadows::push_joined(alloc, out, row.get(1..).unwrap_or(&[])),
+        "decode" => shadows::push_decoded(alloc, out, argument, second),
+        "off" => off::push_off(alloc, out, argument, second),
+        "many" => many::push_many(alloc, out, row.get(1..).unwrap_or(&[])),
+        _ => Err(Stop::Unreadable),
     }
-}
-
-// Puts the answer of a line behind it.
-fn push_row(alloc: Global, line: &str, out: &mut Line) -> Result<(), AllocError> {
-    let fields = split_row(alloc, line)?;
-    out.push_str(" =");
-    push_answer(
-        Row {
-            alloc,
-            fields: &fields,
-        },
-        out,
-    )
 }
 
 // The line with its answer.
 fn answered(alloc: Global, line: &str) -> Result<String, AllocError> {
-    let mut out = Line::new(alloc);
-    out.push_str(line);
-    if !line.starts_with('#') {
-        let done = push_row(alloc, line, &mut out);
-        out.note(done);
+    let mut out = String::from_str(alloc, line)?;
+    if line.starts_with('#') {
+        return Ok(out);
     }
-    out.end()
+    out.push_str(" =")?;
+    let row: Vec<&str> = line.split('|').collect(alloc)?;
+    match answer(alloc, &mut out, &row) {
+        Ok(()) => {}
+        Err(stop) => write!(out, " {}", stop.name())?,
+    }
+    Ok(out)
 }
 
 fn main(rt: HostRuntime) -> io::Result<()> {

@@ -1,28 +1,22 @@
 //! Shadow texts of many runs.
 
+use crate::fields::number_in;
 use crate::policies::policy_of;
 use crate::shadows::push_run;
-use resin_frozen::{Frozen, Stop};
+use crate::stop::Stop;
+use resin_frozen::Frozen;
 use resin_shadow::{FrozenList, FrozenRuns, decode, encode};
-use resin_table_rows::{Line, Row};
 use std::alloc::{AllocError, Global};
 
-fn policy_text(alloc: Global, number: u32) -> Result<String, AllocError> {
-    let class = format!(in alloc; "P{number}")?;
-    format!(in alloc; "O:{}:\"{}\":0:{{}}", class.len(), class.as_str())
-}
-
 // A policy of a number.
-fn policy(alloc: Global, number: u32) -> Result<Frozen, AllocError> {
-    let text = policy_text(alloc, number)?;
-    match policy_of(alloc, text.as_bytes()) {
-        Ok(policy) => Ok(policy),
-        Err(Stop::Form) | Err(Stop::Memory) => Err(AllocError),
-    }
+fn policy(alloc: Global, number: u32) -> Result<Frozen, Stop> {
+    let class = format!(in alloc; "P{number}")?;
+    let text = format!(in alloc; "O:{}:\"{}\":0:{{}}", class.len(), class.as_str())?;
+    policy_of(alloc, text.as_bytes())
 }
 
 // The policies of the numbers below one.
-fn policies(alloc: Global, count: u32) -> Result<FrozenList, AllocError> {
+fn policies(alloc: Global, count: u32) -> Result<FrozenList, Stop> {
     let mut out = FrozenList::new(alloc);
     for number in 0..count {
         out.push(policy(alloc, number)?)?;
@@ -59,42 +53,39 @@ fn runs_of(
     policies: &[Frozen],
     count: u32,
     of_each: u32,
-) -> Result<FrozenRuns, AllocError> {
+) -> Result<FrozenRuns, Stop> {
     let mut runs = FrozenRuns::new(alloc);
     for i in 0..count {
-        let set = set_from(alloc, policies, i, of_each)?;
-        push_run(&mut runs, 1, &set)?;
+        push_run(&mut runs, 1, &set_from(alloc, policies, i, of_each)?)?;
     }
     Ok(runs)
 }
 
-fn push_read(out: &mut Line, read: &Option<FrozenRuns>) {
-    match read {
-        Some(read) => out.push_count(read.runs().len()),
-        None => out.push_word("none"),
-    }
+// The number at a place of a row.
+fn number_at(row: &[&str], place: usize) -> Result<u32, Stop> {
+    number_in(row.get(place).copied().unwrap_or(""))
 }
 
 // Puts last how long the shadow text of runs is, how many runs there are, and how many are read.
 fn push_counts(
     alloc: Global,
-    out: &mut Line,
+    out: &mut String,
     count: u32,
     runs: &FrozenRuns,
 ) -> Result<(), AllocError> {
     let text = encode(alloc, runs)?;
-    out.push_count(text.as_slice().len());
-    out.push_count(runs.runs().len());
-    let read = decode(alloc, u64::from(count), text.as_slice())?;
-    push_read(out, &read);
-    Ok(())
+    write!(out, " {} {}", text.as_slice().len(), runs.runs().len())?;
+    match decode(alloc, u64::from(count), text.as_slice())? {
+        Some(read) => write!(out, " {}", read.runs().len()),
+        None => out.push_str(" none"),
+    }
 }
 
 /// Puts last how long the shadow text of so many runs of one byte is, that have so many of so many policies in turn, how many runs there are, and how many are
 /// read.
-pub fn push_many(row: Row<'_>, out: &mut Line) -> Result<(), AllocError> {
-    let count = row.number(1);
-    let policies = policies(row.alloc, row.number(2))?;
-    let runs = runs_of(row.alloc, policies.as_slice(), count, row.number(3))?;
-    push_counts(row.alloc, out, count, &runs)
+pub fn push_many(alloc: Global, out: &mut String, row: &[&str]) -> Result<(), Stop> {
+    let count = number_at(row, 0)?;
+    let policies = policies(alloc, number_at(row, 1)?)?;
+    let runs = runs_of(alloc, policies.as_slice(), count, number_at(row, 2)?)?;
+    Ok(push_counts(alloc, out, count, &runs)?)
 }

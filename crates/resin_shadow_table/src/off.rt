@@ -1,7 +1,8 @@
 //! How many texts are read that are off a shadow text by one byte.
 
+use crate::fields::{bytes_in, length_in};
+use crate::stop::Stop;
 use resin_shadow::decode;
-use resin_table_rows::{Line, Row, bytes_in};
 use std::alloc::{AllocError, Global};
 
 // The bytes with so many from a place on left out, and these in their place.
@@ -41,8 +42,9 @@ impl<'a> Trial<'a> {
     // Reads the text in which these bytes stand in the place of so many from a place on.
     fn try_with(&mut self, from: usize, count: usize, new: &[u8]) -> Result<(), AllocError> {
         let text = replaced(self.alloc, self.shadow, from, count, new)?;
-        let read = decode(self.alloc, self.len, &text)?;
-        self.read = self.read.saturating_add(u32::from(read.is_some()));
+        if decode(self.alloc, self.len, &text)?.is_some() {
+            self.read = self.read.saturating_add(1);
+        }
         Ok(())
     }
 }
@@ -77,11 +79,11 @@ fn doubled(alloc: Global, len: u64, shadow: &[u8]) -> Result<u32, AllocError> {
 }
 
 /// Puts last how many of the texts are read that come of a shadow text of so many bytes by changing, by dropping, and by doubling one byte.
-pub fn push_off(row: Row<'_>, out: &mut Line) -> Result<(), AllocError> {
-    let (alloc, len) = (row.alloc, row.count(1));
-    let bytes = bytes_in(alloc, row.field(2))?;
-    write!(out, " {}", changed(alloc, len, &bytes)?);
-    write!(out, " {}", dropped(alloc, len, &bytes)?);
-    write!(out, " {}", doubled(alloc, len, &bytes)?);
-    Ok(())
+pub fn push_off(alloc: Global, out: &mut String, len: &str, text: &str) -> Result<(), Stop> {
+    let len = length_in(len)?;
+    let bytes = bytes_in(alloc, text)?;
+    let changed = changed(alloc, len, &bytes)?;
+    let dropped = dropped(alloc, len, &bytes)?;
+    let doubled = doubled(alloc, len, &bytes)?;
+    Ok(write!(out, " {changed} {dropped} {doubled}")?)
 }

@@ -1,26 +1,25 @@
 //! Policy texts.
 
+use crate::fields::{bytes_in, push_bytes};
+use crate::stop::Stop;
 use crate::values::{push_value, value_in};
-use resin_frozen::{FreezeFault, Frozen, Rest, Stop, are_fields, freeze, is_class, thaw};
-use resin_table_rows::{Line, Row, bytes_in, cut};
+use resin_frozen::{
+    FreezeFault, Frozen, Rest, Stop as ReadStop, are_fields, freeze, is_class, thaw,
+};
 use resin_value::Fields;
 use resin_value::under::bytes::Bytes;
 use std::alloc::{AllocError, Global};
 
-fn spelled(alloc: Global, field: &str) -> Result<Bytes, AllocError> {
-    let bytes = bytes_in(alloc, field)?;
-    Bytes::from_slice(alloc, &bytes)
-}
-
 // Puts a field last that a word spells: its name, and its value behind a space.
-fn push_field(alloc: Global, fields: &mut Fields, field: &str) -> Result<(), AllocError> {
-    let (name, value) = cut(field, ' ');
+fn push_field(alloc: Global, fields: &mut Fields, field: &str) -> Result<(), Stop> {
+    let (name, value) = field.split_once(' ').unwrap_or((field, ""));
     let value = value_in(alloc, value)?;
-    fields.push((spelled(alloc, name)?, value))
+    let name = Bytes::from_slice(alloc, &bytes_in(alloc, name)?)?;
+    Ok(fields.push((name, value))?)
 }
 
 // The fields that a row spells.
-fn fields_in(alloc: Global, row: &[&str]) -> Result<Fields, AllocError> {
+fn fields_in(alloc: Global, row: &[&str]) -> Result<Fields, Stop> {
     let mut fields = Fields::new(alloc);
     for field in row {
         push_field(alloc, &mut fields, field)?;
@@ -28,96 +27,80 @@ fn fields_in(alloc: Global, row: &[&str]) -> Result<Fields, AllocError> {
     Ok(fields)
 }
 
-// Puts a policy text last, or the name of the fault.
-fn push_answer(out: &mut Line, text: Result<Frozen, FreezeFault>) {
-    out.push(' ');
-    match text {
-        Ok(text) => out.push_bytes(text.as_slice()),
-        Err(FreezeFault::NotStorable) => out.push_str("NotStorable"),
-        Err(FreezeFault::Memory) => out.push_str("Memory"),
+// The text of a class and fields, or the name of the fault.
+fn push_text(alloc: Global, out: &mut String, class: &[u8], fields: &Fields) -> Result<(), Stop> {
+    if !is_class(class) || !are_fields(alloc, fields)? {
+        return Err(Stop::Unreadable);
     }
-}
-
-// Puts the text of a class and fields last, or the name of the fault.
-fn push_text(
-    alloc: Global,
-    out: &mut Line,
-    class: &[u8],
-    fields: &Fields,
-) -> Result<(), AllocError> {
-    if is_class(class) && are_fields(alloc, fields)? {
-        push_answer(out, freeze(alloc, class, fields));
-    } else {
-        out.push_word("Unreadable");
+    out.push(' ')?;
+    match freeze(alloc, class, fields) {
+        Ok(text) => push_bytes(out, text.as_slice())?,
+        Err(FreezeFault::NotStorable) => out.push_str("NotStorable")?,
+        Err(FreezeFault::Memory) => out.push_str("Memory")?,
     }
     Ok(())
 }
 
 /// Puts the policy text of a row last.
-pub fn push_frozen(row: Row<'_>, out: &mut Line) -> Result<(), AllocError> {
-    let fields = fields_in(row.alloc, row.fields_from(2))?;
-    let class = bytes_in(row.alloc, row.field(1))?;
-    push_text(row.alloc, out, &class, &fields)
+pub fn push_frozen(alloc: Global, out: &mut String, class: &str, row: &[&str]) -> Result<(), Stop> {
+    let fields = fields_in(alloc, row)?;
+    push_text(alloc, out, &bytes_in(alloc, class)?, &fields)
 }
 
 /// The policy text at the front of bytes.
 pub fn policy_of(alloc: Global, bytes: &[u8]) -> Result<Frozen, Stop> {
-    Frozen::read(alloc, &mut Rest::new(bytes))
+    Ok(Frozen::read(alloc, &mut Rest::new(bytes))?)
 }
 
 /// The policy text that a field spells.
 pub fn policy_in(alloc: Global, field: &str) -> Result<Frozen, Stop> {
-    let bytes = bytes_in(alloc, field)?;
-    policy_of(alloc, &bytes)
+    policy_of(alloc, &bytes_in(alloc, field)?)
 }
 
 // Puts fields last.
-fn push_fields(out: &mut Line, fields: &Fields) {
+fn push_fields(out: &mut String, fields: &Fields) -> Result<(), AllocError> {
     for (name, value) in fields.as_slice() {
-        out.push(' ');
-        out.push_bytes(name.as_slice());
-        push_value(out, value);
+        out.push(' ')?;
+        push_bytes(out, name.as_slice())?;
+        push_value(out, value)?;
     }
+    Ok(())
 }
 
 // Puts the class and the fields of a policy text last, and the text that they freeze to.
-fn push_class(alloc: Global, out: &mut Line, text: &Frozen) -> Result<(), AllocError> {
+fn push_class(alloc: Global, out: &mut String, text: &Frozen) -> Result<(), Stop> {
     let (class, fields) = thaw(alloc, text)?;
-    out.push(' ');
-    out.push_bytes(class.as_slice());
-    push_fields(out, &fields);
-    out.push_str(" ->");
+    out.push(' ')?;
+    push_bytes(out, class.as_slice())?;
+    push_fields(out, &fields)?;
+    out.push_str(" ->")?;
     push_text(alloc, out, class.as_slice(), &fields)
 }
 
 /// Puts the class and the fields of a policy text last, and the text that they freeze to.
-pub fn push_thawed(row: Row<'_>, out: &mut Line) -> Result<(), AllocError> {
-    match policy_in(row.alloc, row.field(1)) {
-        Ok(text) => push_class(row.alloc, out, &text),
-        Err(Stop::Form) => {
-            out.push_word("none");
-            Ok(())
-        }
-        Err(Stop::Memory) => Err(AllocError),
+pub fn push_thawed(alloc: Global, out: &mut String, text: &str) -> Result<(), Stop> {
+    match policy_in(alloc, text) {
+        Ok(text) => push_class(alloc, out, &text),
+        Err(Stop::Unreadable) => Ok(out.push_str(" none")?),
+        Err(Stop::Memory) => Err(Stop::Memory),
     }
 }
 
 // Puts a policy text last, and what is behind it.
-fn push_split(out: &mut Line, text: &[u8], rest: &[u8]) {
-    out.push(' ');
-    out.push_bytes(text);
-    out.push_str(" + ");
-    out.push_bytes(rest);
+fn push_split(out: &mut String, text: &[u8], rest: &[u8]) -> Result<(), AllocError> {
+    out.push(' ')?;
+    push_bytes(out, text)?;
+    out.push_str(" + ")?;
+    push_bytes(out, rest)
 }
 
 /// Puts the policy text at the front of bytes last, and what is behind it.
-pub fn push_front(row: Row<'_>, out: &mut Line) -> Result<(), AllocError> {
-    let bytes = bytes_in(row.alloc, row.field(1))?;
+pub fn push_front(alloc: Global, out: &mut String, text: &str) -> Result<(), Stop> {
+    let bytes = bytes_in(alloc, text)?;
     let mut rest = Rest::new(&bytes);
-    match Frozen::read(row.alloc, &mut rest) {
-        Ok(text) => push_split(out, text.as_slice(), rest.bytes()),
-        Err(Stop::Form) => out.push_word("none"),
-        Err(Stop::Memory) => out.push_word("Memory"),
-    }
-    Ok(())
+    Ok(match Frozen::read(alloc, &mut rest) {
+        Ok(text) => push_split(out, text.as_slice(), rest.bytes())?,
+        Err(ReadStop::Form) => out.push_str(" none")?,
+        Err(ReadStop::Memory) => out.push_str(" Memory")?,
+    })
 }

@@ -1,196 +1,157 @@
 //! How values and keys are spelled in a row, read and written.
 
-use crate::fields::{digits_in, text_in};
+use crate::fields::{bytes_in, digits_in, integer_in, number_in, push_bytes, text_in};
+use crate::stop::Stop;
 use resin_value::under::lstr::LText;
-use resin_value::{Arr, ArrFault, Key, Value};
-use resin_table_rows::{Line, bytes_in, cut, integer_in, number_in};
+use resin_value::{Arr, Key, Value};
 use std::alloc::{AllocError, Global};
 
 // An array under way, and the key of its next value.
+#[derive(Drop)]
 struct Open {
     array: Arr,
     key: Option<Key>,
 }
 
-impl Drop for Open {
-    fn drop(self) {
-        let Open { array: _, key: _ } = self;
-    }
-}
-
-impl Open {
-    fn into_value(self) -> Value {
-        let Open { array, key: _ } = self;
-        Value::Arr(array)
-    }
-
-    // Puts a value at the key that was read, or last.
-    fn put(&mut self, value: Value) -> Result<(), ArrFault> {
-        match self.key.take() {
-            Some(key) if key.is_lawful() => self.array.put(&key, value),
-            _ => self.array.append(value),
-        }
-    }
-}
-
 // The arrays that are under way, one in another, and the last value that stood in none.
+#[derive(Drop)]
 struct Reader {
-    alloc: Global,
     opened: Vec<Open>,
     read: Value,
 }
 
-impl Drop for Reader {
-    fn drop(self) {
-        let Reader {
-            alloc: _,
-            opened: _,
-            read: _,
-        } = self;
-    }
-}
-
 /// The value that a field spells.
-pub fn value_in(alloc: Global, field: &str) -> Result<Value, AllocError> {
+pub fn value_in(alloc: Global, field: &str) -> Result<Value, Stop> {
     let mut reader = Reader {
-        alloc,
         opened: Vec::new(alloc),
         read: Value::Null,
     };
     for token in field.split(' ') {
-        reader.take(token)?;
+        reader.take(alloc, token)?;
     }
-    Ok(reader.into_value())
+    Ok(reader.read)
 }
 
 impl Reader {
-    fn into_value(self) -> Value {
-        let Reader {
-            alloc: _,
-            opened: _,
-            read,
-        } = self;
-        read
-    }
-
-    fn take(&mut self, token: &str) -> Result<(), AllocError> {
-        match token {
-            "[" => self.open(),
-            "]" => self.close(),
-            _ => self.take_scalar(token),
+    fn take(&mut self, alloc: Global, token: &str) -> Result<(), Stop> {
+        match token.strip_suffix(':') {
+            Some(key) => self.set_key(alloc, key),
+            None if token == "[" => self.open(alloc),
+            None if token == "]" => self.close(),
+            None => self.put(scalar_in(alloc, token)?),
         }
     }
 
-    fn take_scalar(&mut self, token: &str) -> Result<(), AllocError> {
-        if let Some(key) = token.strip_suffix(':') {
-            return self.set_key(key);
-        }
-        let value = scalar_in(self.alloc, token)?;
-        self.put(value)
-    }
-
-    fn open(&mut self) -> Result<(), AllocError> {
-        let array = Arr::new(self.alloc)?;
-        self.opened.push(Open { array, key: None })?;
+    fn open(&mut self, alloc: Global) -> Result<(), Stop> {
+        let array = Arr::new(alloc)?;
+        let open = Open { array, key: None };
+        self.opened.push(open).map_err(AllocError::from)?;
         Ok(())
     }
 
-    fn close(&mut self) -> Result<(), AllocError> {
+    fn close(&mut self) -> Result<(), Stop> {
         match self.opened.pop() {
-            Some(open) => self.put(open.into_value()),
-            None => Ok(()),
+            Some(open) => self.put(Value::Arr(open.array)),
+            None => Err(Stop::Unreadable),
         }
     }
 
-    fn set_key(&mut self, token: &str) -> Result<(), AllocError> {
-        let key = key_in(self.alloc, token)?;
-        if let Some(open) = self.opened.last_mut() {
-            open.key = Some(key);
+    fn set_key(&mut self, alloc: Global, token: &str) -> Result<(), Stop> {
+        let key = key_in(alloc, token)?;
+        match self.opened.last_mut() {
+            Some(open) => {
+                open.key = Some(key);
+                Ok(())
+            }
+            None => Err(Stop::Unreadable),
         }
-        Ok(())
     }
 
     // Puts a value into the innermost array.
-    fn put(&mut self, value: Value) -> Result<(), AllocError> {
-        let Some(open) = self.opened.last_mut() else {
-            self.read = value;
-            return Ok(());
-        };
-        match open.put(value) {
-            Ok(()) => Ok(()),
-            Err(_) => Err(AllocError),
+    fn put(&mut self, value: Value) -> Result<(), Stop> {
+        match self.opened.last_mut() {
+            Some(open) => open.put(value),
+            None => {
+                self.read = value;
+                Ok(())
+            }
         }
     }
 }
 
-fn scalar_in(alloc: Global, token: &str) -> Result<Value, AllocError> {
+impl Open {
+    fn put(&mut self, value: Value) -> Result<(), Stop> {
+        match self.key.take() {
+            Some(key) if key.is_lawful() => Ok(self.array.put(&key, value)?),
+            _ => Ok(self.array.append(value)?),
+        }
+    }
+}
+
+fn scalar_in(alloc: Global, token: &str) -> Result<Value, Stop> {
     match token {
         "null" => Ok(Value::Null),
         "true" => Ok(Value::Bool(true)),
         "false" => Ok(Value::Bool(false)),
-        _ => written_in(alloc, token),
+        _ => match token.strip_prefix('\'') {
+            Some(text) => {
+                let inside = text.strip_suffix('\'').unwrap_or(text);
+                Ok(Value::Text(text_in(alloc, inside)?))
+            }
+            None => numbered(alloc, token),
+        },
     }
 }
 
-// A text, an object, or an integer with its set.
-fn written_in(alloc: Global, token: &str) -> Result<Value, AllocError> {
+// An object, or an integer with its set.
+fn numbered(alloc: Global, token: &str) -> Result<Value, Stop> {
     if let Some(number) = token.strip_prefix('#') {
-        return Ok(Value::Obj(number_in(number)));
+        return Ok(Value::Obj(number_in(number)?));
     }
-    match token.strip_prefix('\'') {
-        Some(text) => Ok(Value::Text(text_in(alloc, text.strip_suffix('\'').unwrap_or(text))?)),
-        None => labelled_in(alloc, token),
-    }
-}
-
-fn labelled_in(alloc: Global, token: &str) -> Result<Value, AllocError> {
-    let (number, digits) = cut(token, '{');
+    let (number, digits) = token.split_once('{').unwrap_or((token, ""));
     let set = digits_in(alloc, digits.strip_suffix('}').unwrap_or(digits))?;
-    Ok(Value::Int(integer_in(number), set))
+    Ok(Value::Int(integer_in(number)?, set))
 }
 
-// The key that a field spells: an integer, or what a text between `'` counts as.
-fn key_in(alloc: Global, field: &str) -> Result<Key, AllocError> {
-    let Some(text) = field.strip_prefix('\'') else {
-        return Ok(Key::Int(integer_in(field)));
-    };
-    let bytes = bytes_in(alloc, text.strip_suffix('\'').unwrap_or(text))?;
-    Key::from_text(alloc, &bytes)
+/// The key that a field spells: an integer, or what a text between `'` counts as.
+pub fn key_in(alloc: Global, field: &str) -> Result<Key, Stop> {
+    match field.strip_prefix('\'') {
+        Some(text) => {
+            let bytes = bytes_in(alloc, text.strip_suffix('\'').unwrap_or(text))?;
+            Ok(Key::from_text(alloc, &bytes)?)
+        }
+        None => Ok(Key::Int(integer_in(field)?)),
+    }
 }
 
 /// Puts a value last, an array by its count and its next key. Labels are shown by a `!`.
-pub fn push_value(out: &mut Line, value: &Value) {
+pub fn push_value(out: &mut String, value: &Value) -> Result<(), AllocError> {
     match value {
-        Value::Null => out.push_word("null"),
-        Value::Bool(b) => out.push_truth(*b),
+        Value::Null => out.push_str(" null"),
+        Value::Bool(b) => write!(out, " {b}"),
         Value::Int(n, set) => {
-            out.push_number(*n);
-            push_labels(out, set.as_slice().is_empty());
+            write!(out, " {n}")?;
+            push_labels(out, set.as_slice().is_empty())
         }
-        Value::Text(text) => push_text(out, text),
+        Value::Text(text) => {
+            out.push_str(" '")?;
+            push_bytes(out, text.bytes())?;
+            out.push('\'')?;
+            push_labels(out, is_plain(text))
+        }
         Value::Obj(n) => write!(out, " #{n}"),
-        Value::Arr(array) => push_array(out, array),
+        Value::Arr(array) => {
+            write!(out, " [{}]", array.len())?;
+            match array.next_key() {
+                Some(key) => write!(out, "next={key}"),
+                None => Ok(()),
+            }
+        }
     }
 }
 
-fn push_text(out: &mut Line, text: &LText) {
-    out.push_str(" '");
-    out.push_bytes(text.bytes());
-    out.push('\'');
-    push_labels(out, is_plain(text));
-}
-
-fn push_array(out: &mut Line, array: &Arr) {
-    write!(out, " [{}]", array.len());
-    if let Some(key) = array.next_key() {
-        write!(out, "next={key}");
-    }
-}
-
-fn push_labels(out: &mut Line, none: bool) {
-    if !none {
-        out.push('!');
-    }
+fn push_labels(out: &mut String, none: bool) -> Result<(), AllocError> {
+    if none { Ok(()) } else { out.push('!') }
 }
 
 // Whether no byte of a text carries a label.

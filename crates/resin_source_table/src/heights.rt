@@ -16,7 +16,6 @@ use resin_grammar::place::{
 use resin_grammar::tall::{Pairs, Tall, Trees};
 use resin_items::SharedBytes;
 use resin_lex::{Combining, ConstantName, Expr, Import, Unary};
-use resin_table_rows::{Line, cut};
 use std::alloc::{AllocError, Global};
 use std::mem;
 
@@ -28,20 +27,11 @@ fn target(alloc: Global) -> Result<TallPlace, AllocError> {
     Ok(TallPlace::new(alloc, name(alloc)?))
 }
 
+#[derive(Drop)]
 struct Calculator {
     trees: Vec<Tall>,
     pairs: Pairs,
     place: TallPlace,
-}
-
-impl Drop for Calculator {
-    fn drop(self) {
-        let Calculator {
-            trees: _,
-            pairs: _,
-            place: _,
-        } = self;
-    }
 }
 
 /// The last tree of a stack.
@@ -107,28 +97,21 @@ fn choice(alloc: Global, trees: &mut Vec<Tall>) -> Result<Tall, AllocError> {
     Tall::choice(alloc, test, one, other)
 }
 
-fn pair(alloc: Global, trees: &mut Vec<Tall>, word: &str) -> Result<Tall, AllocError> {
-    let right = pop(alloc, trees)?;
-    let left = pop(alloc, trees)?;
-    of_two(alloc, word, left, right)
-}
-
 fn method(alloc: Global, trees: &mut Vec<Tall>, count: usize) -> Result<Tall, AllocError> {
-    let name = name(alloc)?;
     let arguments = pop_many(alloc, trees, count)?;
     let object = pop(alloc, trees)?;
-    Tall::method_call(alloc, object, name, arguments)
+    Tall::method_call(alloc, object, name(alloc)?, arguments)
 }
 
 /// The tree that a word makes of a count of trees.
 fn counted(alloc: Global, trees: &mut Vec<Tall>, word: &str) -> Result<Tall, AllocError> {
-    let (word, count) = cut(word, ':');
+    let (word, count) = word.split_once(':').unwrap_or((word, ""));
     let count = count.parse::<usize>().unwrap_or(0);
     if word == "method" {
-        method(alloc, trees, count)
-    } else {
-        of_many(alloc, word, pop_many(alloc, trees, count)?)
+        return method(alloc, trees, count);
     }
+    let list = pop_many(alloc, trees, count)?;
+    of_many(alloc, word, list)
 }
 
 /// The tree that a word makes of trees.
@@ -136,21 +119,17 @@ fn tree(alloc: Global, trees: &mut Vec<Tall>, word: &str) -> Result<Tall, AllocE
     match word {
         "int" | "text" | "null" | "variable" => leaf(alloc, word),
         "-" | "instanceof" | "empty" | "property" | "include" => {
-            of_one(alloc, word, pop(alloc, trees)?)
+            let tree = pop(alloc, trees)?;
+            of_one(alloc, word, tree)
         }
-        "+" | "??" | "?:" | "index" => pair(alloc, trees, word),
+        "+" | "??" | "?:" | "index" => {
+            let right = pop(alloc, trees)?;
+            let left = pop(alloc, trees)?;
+            of_two(alloc, word, left, right)
+        }
         "choice" => choice(alloc, trees),
         _ => counted(alloc, trees, word),
     }
-}
-
-fn assign(
-    alloc: Global,
-    trees: &mut Vec<Tall>,
-    place: TallPlace,
-) -> Result<Tall, AllocError> {
-    let value = pop(alloc, trees)?;
-    assignment(alloc, Writing::Assign, place, value)
 }
 
 /// The tree that a word makes of a place.
@@ -166,7 +145,10 @@ fn tree_of_place(
         ".++" => post_increment(alloc, place),
         ".--" => post_decrement(alloc, place),
         "read" if !place.has_next() => place.into_tall(alloc),
-        _ => assign(alloc, trees, place),
+        _ => {
+            let value = pop(alloc, trees)?;
+            assignment(alloc, Writing::Assign, place, value)
+        }
     }
 }
 
@@ -179,78 +161,54 @@ impl Calculator {
         })
     }
 
-    fn push(&mut self, tree: Result<Tall, AllocError>) -> Result<(), AllocError> {
-        self.trees.push(tree?)?;
-        Ok(())
-    }
-
-    fn push_value(&mut self, alloc: Global) -> Result<(), AllocError> {
-        self.pairs.push_value(pop(alloc, &mut self.trees)?)
-    }
-
-    fn push_pair(&mut self, alloc: Global) -> Result<(), AllocError> {
+    fn push_pair(&mut self, alloc: Global, word: &str) -> Result<(), AllocError> {
         let value = pop(alloc, &mut self.trees)?;
+        if word == "value" {
+            return self.pairs.push_value(value);
+        }
         let key = pop(alloc, &mut self.trees)?;
         self.pairs.push_pair(key, value)
     }
 
-    fn push_index(&mut self, alloc: Global) -> Result<(), AllocError> {
-        self.place.push_index(pop(alloc, &mut self.trees)?)
-    }
-
-    fn push_property(&mut self, alloc: Global) -> Result<(), AllocError> {
-        self.place.push_property(name(alloc)?)
-    }
-
-    // The place, in which a new one takes its stead.
-    fn take_place(&mut self, alloc: Global) -> Result<TallPlace, AllocError> {
-        Ok(mem::replace(&mut self.place, target(alloc)?))
+    fn step(&mut self, alloc: Global, word: &str) -> Result<(), AllocError> {
+        match word {
+            "at" => {
+                let index = pop(alloc, &mut self.trees)?;
+                self.place.push_index(index)
+            }
+            "at_property" => self.place.push_property(name(alloc)?),
+            _ => self.place.push_next(),
+        }
     }
 
     fn use_place(&mut self, alloc: Global, word: &str) -> Result<(), AllocError> {
-        let place = self.take_place(alloc)?;
-        let tree = tree_of_place(alloc, &mut self.trees, place, word);
-        self.push(tree)
+        let place = mem::replace(&mut self.place, target(alloc)?);
+        let tree = tree_of_place(alloc, &mut self.trees, place, word)?;
+        self.trees.push(tree)?;
+        Ok(())
     }
 
     fn array(&mut self, alloc: Global) -> Result<(), AllocError> {
         let pairs = mem::replace(&mut self.pairs, Pairs::new(alloc));
-        self.push(Tall::array(alloc, pairs))
-    }
-
-    fn renew(&mut self, alloc: Global) -> Result<(), AllocError> {
-        self.place = target(alloc)?;
+        self.trees.push(Tall::array(alloc, pairs)?)?;
         Ok(())
     }
 
-    // An act on the pairs or the place; nothing where the word is none.
-    fn act_on_parts(&mut self, alloc: Global, word: &str) -> Option<Result<(), AllocError>> {
+    fn act(&mut self, alloc: Global, word: &str) -> Result<(), AllocError> {
         match word {
-            "value" => Some(self.push_value(alloc)),
-            "pair" => Some(self.push_pair(alloc)),
-            "at" => Some(self.push_index(alloc)),
-            "at_property" => Some(self.push_property(alloc)),
-            "at_next" => Some(self.place.push_next()),
-            _ => None,
-        }
-    }
-
-    fn act_on_whole(&mut self, alloc: Global, word: &str) -> Result<(), AllocError> {
-        match word {
+            "value" | "pair" => self.push_pair(alloc, word),
             "array" => self.array(alloc),
-            "target" => self.renew(alloc),
+            "target" => {
+                self.place = target(alloc)?;
+                Ok(())
+            }
+            "at" | "at_property" | "at_next" => self.step(alloc, word),
             "read" | "assign" | "++." | "--." | ".++" | ".--" => self.use_place(alloc, word),
             _ => {
-                let tree = tree(alloc, &mut self.trees, word);
-                self.push(tree)
+                let tree = tree(alloc, &mut self.trees, word)?;
+                self.trees.push(tree)?;
+                Ok(())
             }
-        }
-    }
-
-    fn act(&mut self, alloc: Global, word: &str) -> Result<(), AllocError> {
-        match self.act_on_parts(alloc, word) {
-            Some(done) => done,
-            None => self.act_on_whole(alloc, word),
         }
     }
 }
@@ -263,55 +221,56 @@ fn built(alloc: Global, words: &str) -> Result<Calculator, AllocError> {
     Ok(calculator)
 }
 
-// How many items all the trees are together.
-fn push_count(alloc: Global, out: &mut Line, trees: &mut Vec<Tall>) -> Result<(), AllocError> {
+/// How many items all the trees are together.
+fn count(alloc: Global, mut trees: Vec<Tall>) -> Result<String, AllocError> {
     let len = trees.len();
-    let items = pop_many(alloc, trees, len)?.into_items();
-    write!(out, "{}", items.len());
-    Ok(())
+    let items = pop_many(alloc, &mut trees, len)?.into_items();
+    let count = items.len();
+    format!(in alloc; "{count}")
 }
 
-// What is asked of the place: whether it may grow higher, with its height; whether it ends with `[]`; how many steps its path has.
-fn push_about_place(out: &mut Line, asked: &str, place: TallPlace) {
+/// What is asked of the place: whether it may grow higher, with its height; whether it ends with `[]`; how many steps its path has.
+fn about_place(alloc: Global, asked: &str, place: TallPlace) -> Result<String, AllocError> {
     match asked {
         "place" => {
-            write!(out, "{} ", place.height());
-            out.push_str(truth(place.is_low()));
+            let (height, low) = (place.height(), truth(place.is_low()));
+            format!(in alloc; "{height} {low}")
         }
-        "open" => out.push_str(truth(place.has_next())),
-        _ => write!(out, "{}", place.into_target().path.len()),
-    }
-}
-
-fn is_literal(tree: Tall) -> bool {
-    matches!(tree.into_tree().get(), Expr::Literal(_))
-}
-
-// What is asked of the last tree: its height, whether it may grow higher, or whether it is a literal.
-fn push_about_tree(out: &mut Line, asked: &str, tree: Tall) {
-    match asked {
-        "height" => write!(out, "{}", tree.height()),
-        "low" => out.push_str(truth(tree.is_low())),
-        _ => out.push_str(truth(is_literal(tree))),
-    }
-}
-
-pub fn push_answer(
-    alloc: Global,
-    out: &mut Line,
-    asked: &str,
-    words: &str,
-) -> Result<(), AllocError> {
-    let mut calculator = built(alloc, words)?;
-    match asked {
-        "place" | "open" | "path" => {
-            push_about_place(out, asked, calculator.take_place(alloc)?);
-            Ok(())
-        }
-        "trees" => push_count(alloc, out, &mut calculator.trees),
+        "open" => String::from_str(alloc, truth(place.has_next())),
         _ => {
-            push_about_tree(out, asked, pop(alloc, &mut calculator.trees)?);
-            Ok(())
+            let steps = place.into_target().path.len();
+            format!(in alloc; "{steps}")
+        }
+    }
+}
+
+/// What is asked of the last tree: its height, whether it may grow higher, or whether it is a literal.
+fn about_tree(alloc: Global, asked: &str, tree: Tall) -> Result<String, AllocError> {
+    match asked {
+        "height" => {
+            let height = tree.height();
+            format!(in alloc; "{height}")
+        }
+        "low" => String::from_str(alloc, truth(tree.is_low())),
+        _ => {
+            let is_literal = matches!(tree.into_tree().get(), Expr::Literal(_));
+            String::from_str(alloc, truth(is_literal))
+        }
+    }
+}
+
+pub fn answer(alloc: Global, asked: &str, words: &str) -> Result<String, AllocError> {
+    let Calculator {
+        mut trees,
+        pairs: _,
+        place,
+    } = built(alloc, words)?;
+    match asked {
+        "place" | "open" | "path" => about_place(alloc, asked, place),
+        "trees" => count(alloc, trees),
+        _ => {
+            let tree = pop(alloc, &mut trees)?;
+            about_tree(alloc, asked, tree)
         }
     }
 }

@@ -17,7 +17,6 @@ use resin_program_grammar::tokens::{
     begins_statement, begins_type, digits_of,
 };
 use resin_program_grammar::word::is_word;
-use resin_table_rows::{Line, integer_in};
 use std::alloc::{AllocError, Global};
 
 /// Whether a token is or begins something in an expression.
@@ -67,76 +66,47 @@ fn meaning(asked: &str, kind: &TokenKind) -> Option<&'static str> {
     }
 }
 
-fn push_name(alloc: Global, out: &mut Line, kind: &TokenKind) -> Result<(), AllocError> {
-    let name = name_of(alloc, kind)?;
-    let name = String::from_utf8_lossy(alloc, name.as_slice())?;
-    out.push_str(name.as_str());
-    Ok(())
-}
-
-fn push_about(
-    alloc: Global,
-    out: &mut Line,
-    asked: &str,
-    token: &Token,
-) -> Result<(), AllocError> {
-    match asked {
-        "level" => write!(out, "{}", level_of(&token.kind)),
-        "name" => return push_name(alloc, out, &token.kind),
-        _ => match in_programs(asked, token) {
-            Some(truth) => out.push_str(words::truth(truth)),
-            None => out.push_str(meaning(asked, &token.kind).unwrap_or("none")),
-        },
+fn about(alloc: Global, asked: &str, token: &Token) -> Result<String, AllocError> {
+    if let Some(truth) = in_programs(asked, token) {
+        return String::from_str(alloc, words::truth(truth));
     }
-    Ok(())
-}
-
-fn push_of(
-    alloc: Global,
-    out: &mut Line,
-    asked: &str,
-    token: Option<&Token>,
-) -> Result<(), AllocError> {
-    match token {
-        Some(token) => push_about(alloc, out, asked, token),
-        None => {
-            out.push_str("no token");
-            Ok(())
+    match asked {
+        "level" => {
+            let level = level_of(&token.kind);
+            format!(in alloc; "{level}")
         }
+        "name" => {
+            let name = name_of(alloc, &token.kind)?;
+            String::from_utf8_lossy(alloc, name.as_slice())
+        }
+        _ => String::from_str(alloc, meaning(asked, &token.kind).unwrap_or("none")),
     }
 }
 
 /// What is asked of the token at the place of `PLACE|SOURCE`.
-pub fn push_answer(
-    alloc: Global,
-    out: &mut Line,
-    asked: &str,
-    rest: &str,
-) -> Result<(), AllocError> {
+pub fn answer(alloc: Global, asked: &str, rest: &str) -> Result<String, AllocError> {
     let (place, source) = rest.split_once('|').unwrap_or(("", rest));
     let place = place.parse::<usize>().unwrap_or(0);
     let text = format!(in alloc; "<?php {source}")?;
     if text.len() > 16_777_216 {
-        out.push_str("too long");
-        return Ok(());
+        return String::from_str(alloc, "too long");
     }
     let lexing = tokens_and_fault(alloc, text.as_bytes())?;
-    push_of(alloc, out, asked, lexing.list.tokens.as_slice().get(place))
-}
-
-fn push_digits(out: &mut Line, number: i64) {
-    match digits_of(&TokenKind::Int(number)) {
-        Some(digits) => write!(out, "{digits}"),
-        None => out.push_str("none"),
+    match lexing.list.tokens.as_slice().get(place) {
+        Some(token) => about(alloc, asked, token),
+        None => String::from_str(alloc, "no token"),
     }
 }
 
 /// The digits of a number, or the constant of a name.
-pub fn push_known(out: &mut Line, asked: &str, rest: &str) {
+pub fn answer_about(alloc: Global, asked: &str, rest: &str) -> Result<String, AllocError> {
     if asked == "constant" {
         let word = constant_of(rest.as_bytes()).map(words::constant);
-        out.push_str(word.unwrap_or("none"));
-    } else {
-        push_digits(out, integer_in(rest));
+        return String::from_str(alloc, word.unwrap_or("none"));
+    }
+    let number = rest.parse::<i64>().unwrap_or(0);
+    match digits_of(&TokenKind::Int(number)) {
+        Some(digits) => format!(in alloc; "{digits}"),
+        None => String::from_str(alloc, "none"),
     }
 }

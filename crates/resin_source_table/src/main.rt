@@ -1,68 +1,48 @@
-//! Asks the crates that stand under the parser, one question a line, and prints the line with its answer behind ` = `. A line that begins with
-//! `#` is a heading and is printed as it is. What stands in front of the first `|` of a line says what is asked:
+//! Asks the crates that stand under the parser, one question a line, and prints the line with its answer behind ` = `. A line that begins with `#` is a heading
+//! and is printed as it is. What stands in front of the first `|` of a line says what is asked:
 //!
 //! - `sum|DEPTH|SIGNS`: how far a sum of ones, with brackets and `!`, is read that may nest so deep, and whether it is odd;
 //! - `list`, `boxed`, `shared`, `bytes`, `function`, `class` and `chain`: what holds the parts of trees, and their copies (`parts.rt`);
-//! - `height`, `low`, `literal`, `trees`, `place`, `open` and `path`: what the words behind it build, as a calculator that keeps trees on a stack
-//!   (`heights.rt`);
+//! - `height`, `low`, `literal`, `trees`, `place`, `open` and `path`: what the words behind it build, as a calculator that keeps trees on a stack (`heights.rt`);
 //! - `digits|N` and `constant|NAME`: the number that a token of this number is without a sign, and the constant of a name;
 //! - another word, `WORD|PLACE|SOURCE`: something about the token at this place of a source text, as code behind `<?php ` (`kinds.rt`).
 //!
-//! `none` says that there is no such thing. The output was worked out by hand from the PHP manual and this project's profile; it is the table of
-//! the tests of these crates.
+//! `none` says that there is no such thing. The output was worked out by hand from the PHP manual and this project's profile; it is the table of the tests of
+//! these crates.
 #![tactic(auto)]
 
 mod heights;
 mod kinds;
-mod parity;
 mod parts;
 mod sums;
 mod words;
 
-use resin_table_rows::Line;
 use std::alloc::{AllocError, Global};
 use std::io;
 
-fn push_answer(
-    alloc: Global,
-    out: &mut Line,
-    asked: &str,
-    rest: &str,
-) -> Result<(), AllocError> {
+fn answer(alloc: Global, line: &str) -> Result<String, AllocError> {
+    let Some((asked, rest)) = line.split_once('|') else {
+        return String::from_str(alloc, "unknown");
+    };
     match asked {
-        "sum" => sums::push_outcome(alloc, out, rest),
+        "sum" => sums::outcome(alloc, rest),
         "list" | "boxed" | "shared" | "bytes" | "function" | "class" | "chain" => {
-            parts::push_answer(alloc, out, asked, rest)
+            parts::answer(alloc, asked, rest)
         }
         "height" | "low" | "literal" | "trees" | "place" | "open" | "path" => {
-            heights::push_answer(alloc, out, asked, rest)
+            heights::answer(alloc, asked, rest)
         }
-        "digits" | "constant" => {
-            kinds::push_known(out, asked, rest);
-            Ok(())
-        }
-        _ => kinds::push_answer(alloc, out, asked, rest),
-    }
-}
-
-fn push_row(alloc: Global, out: &mut Line, line: &str) {
-    out.push_str(" = ");
-    match line.split_once('|') {
-        Some((asked, rest)) => {
-            let done = push_answer(alloc, out, asked, rest);
-            out.note(done);
-        }
-        None => out.push_str("unknown"),
+        "digits" | "constant" => kinds::answer_about(alloc, asked, rest),
+        _ => kinds::answer(alloc, asked, rest),
     }
 }
 
 fn answered(alloc: Global, line: &str) -> Result<String, AllocError> {
-    let mut out = Line::new(alloc);
-    out.push_str(line);
-    if !line.starts_with('#') {
-        push_row(alloc, &mut out, line);
+    if line.starts_with('#') {
+        return String::from_str(alloc, line);
     }
-    out.end()
+    let answer = answer(alloc, line)?;
+    format!(in alloc; "{line} = {answer}")
 }
 
 fn main(rt: HostRuntime) -> io::Result<()> {

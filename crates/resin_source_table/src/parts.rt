@@ -6,101 +6,69 @@ use resin_lex::{
     ClassDecl, Expr, Function, Literal, Name, Stmt, StmtKind, TokenKind, tokens_and_fault,
 };
 use resin_program_grammar::Chain;
-use resin_table_rows::{Line, cut, number_in};
 use std::alloc::{AllocError, Global};
 
-fn push_numbers(out: &mut Line, numbers: &[u32]) {
+fn push_numbers(out: &mut String, numbers: &[u32]) -> Result<(), AllocError> {
     for n in numbers {
-        out.push_number(i64::from(*n));
+        write!(out, " {n}")?;
     }
+    Ok(())
 }
 
-fn numbers_in(alloc: Global, rest: &str) -> Result<Items<u32>, AllocError> {
+/// `list|N,N..`: the items, their count, the last, which is taken out, whether none is left, and those that are left.
+fn list(alloc: Global, rest: &str) -> Result<String, AllocError> {
     let mut list = Items::new(alloc);
     for n in rest.split(',') {
-        list.push(number_in(n))?;
+        list.push(n.parse::<u32>().unwrap_or(0))?;
     }
-    Ok(list)
+    let mut out = String::from_str(alloc, "all")?;
+    push_numbers(&mut out, list.as_slice())?;
+    let count = list.len();
+    let last = list.pop().unwrap_or(0);
+    let is_empty = list.is_empty();
+    write!(out, ", count {count}, last {last}, empty {is_empty}, left")?;
+    push_numbers(&mut out, &list.into_vec())?;
+    Ok(out)
 }
 
-// `list|N,N..`: the items, their count, the last, which is taken out, whether none is left, and those that are left.
-fn push_list(alloc: Global, out: &mut Line, rest: &str) -> Result<(), AllocError> {
-    let mut list = numbers_in(alloc, rest)?;
-    out.push_str("all");
-    push_numbers(out, list.as_slice());
-    write!(out, ", count {}", list.len());
-    write!(out, ", last {}", list.pop().unwrap_or(0));
-    write!(out, ", empty {}, left", list.is_empty());
-    push_numbers(out, &list.into_vec());
-    Ok(())
+/// `boxed|N`: the number as the box lends it, and as it comes out.
+fn boxed(alloc: Global, rest: &str) -> Result<String, AllocError> {
+    let boxed = Boxed::new(alloc, rest.parse::<u32>().unwrap_or(0))?;
+    let lent = *boxed.get();
+    let inner = boxed.into_inner();
+    format!(in alloc; "{lent} {inner}")
 }
 
-// `boxed|N`: the number as the box lends it, and as it comes out.
-fn push_boxed(alloc: Global, out: &mut Line, rest: &str) -> Result<(), AllocError> {
-    let boxed = Boxed::new(alloc, number_in(rest))?;
-    write!(out, "{} ", boxed.get());
-    write!(out, "{}", boxed.into_inner());
-    Ok(())
-}
-
-// `shared|N`: the number as a second owner has it.
-fn push_shared(alloc: Global, out: &mut Line, rest: &str) -> Result<(), AllocError> {
-    let shared = Shared::new(alloc, number_in(rest))?;
+/// `shared|N`: the number as a second owner has it.
+fn shared(alloc: Global, rest: &str) -> Result<String, AllocError> {
+    let shared = Shared::new(alloc, rest.parse::<u32>().unwrap_or(0))?;
     let second = shared.clone()?;
-    write!(out, "{}", second.get());
-    Ok(())
+    let number = *second.get();
+    format!(in alloc; "{number}")
 }
 
-fn push_text(alloc: Global, out: &mut Line, bytes: &SharedBytes) {
-    if let Some(text) = out.taken(String::from_utf8_lossy(alloc, bytes.as_slice())) {
-        out.push_str(text.as_str());
-    }
-}
-
-fn push_copy(alloc: Global, out: &mut Line, copy: Result<SharedBytes, AllocError>) {
-    if let Some(copy) = out.taken(copy) {
-        push_text(alloc, out, &copy);
-    }
-}
-
-fn from_vec(alloc: Global, bytes: &[u8]) -> Result<SharedBytes, AllocError> {
-    SharedBytes::from_vec(bytes.to_vec(alloc)?)
-}
-
-// `bytes|TEXT`: the bytes as a second owner has them, by a handle, and those of a vector.
-fn push_bytes(alloc: Global, out: &mut Line, rest: &str) -> Result<(), AllocError> {
+/// `bytes|TEXT`: the bytes as a second owner has them, by a handle, and those of a vector.
+fn bytes(alloc: Global, rest: &str) -> Result<String, AllocError> {
     let bytes = SharedBytes::from_slice(alloc, rest.as_bytes())?;
-    push_copy(alloc, out, bytes.clone());
-    out.push(' ');
-    push_copy(alloc, out, bytes.handle());
-    out.push(' ');
-    push_copy(alloc, out, from_vec(alloc, rest.as_bytes()));
-    Ok(())
+    let second = String::from_utf8_lossy(alloc, bytes.clone()?.as_slice())?;
+    let handle = String::from_utf8_lossy(alloc, bytes.handle()?.as_slice())?;
+    let vec = SharedBytes::from_vec(rest.as_bytes().to_vec(alloc)?)?;
+    let third = String::from_utf8_lossy(alloc, vec.as_slice())?;
+    format!(in alloc; "{second} {handle} {third}")
 }
 
-fn function(alloc: Global, line: u32, name: &str) -> Result<Function, AllocError> {
-    let parameters = Shared::new(alloc, Items::new(alloc))?;
-    let body = Shared::new(alloc, Items::new(alloc))?;
-    Ok(Function {
+/// `function|LINE|NAME`: the line and the name of a copy.
+fn function(alloc: Global, line: u32, name: &str) -> Result<String, AllocError> {
+    let function = Function {
         line,
         name: SharedBytes::from_slice(alloc, name.as_bytes())?,
-        parameters,
-        body,
-    })
-}
-
-// `function|LINE|NAME`: the line and the name of a copy.
-fn push_function(
-    alloc: Global,
-    out: &mut Line,
-    line: u32,
-    name: &str,
-) -> Result<(), AllocError> {
-    let function = function(alloc, line, name)?;
+        parameters: Shared::new(alloc, Items::new(alloc))?,
+        body: Shared::new(alloc, Items::new(alloc))?,
+    };
     let copy = function.clone()?;
-    write!(out, "{} ", copy.line);
-    push_text(alloc, out, &copy.name);
-    Ok(())
+    let name = String::from_utf8_lossy(alloc, copy.name.as_slice())?;
+    let line = copy.line;
+    format!(in alloc; "{line} {name}")
 }
 
 /// The name that a word is, and the names behind it.
@@ -120,41 +88,38 @@ fn name(alloc: Global, word: &str) -> Result<Option<Name>, AllocError> {
 }
 
 fn class_of(alloc: Global, name: Name, line: u32, parent: &str) -> Result<ClassDecl, AllocError> {
-    let parent = SharedBytes::from_slice(alloc, parent.as_bytes())?;
-    let properties = Shared::new(alloc, Items::new(alloc))?;
-    let methods = Shared::new(alloc, Items::new(alloc))?;
     Ok(ClassDecl {
         line,
         name,
-        parent: Some(parent),
-        properties,
-        methods,
+        parent: Some(SharedBytes::from_slice(alloc, parent.as_bytes())?),
+        properties: Shared::new(alloc, Items::new(alloc))?,
+        methods: Shared::new(alloc, Items::new(alloc))?,
     })
 }
 
-// The line, the name and the parent of a class.
-fn push_shown_class(alloc: Global, out: &mut Line, class: &ClassDecl) {
-    write!(out, "{} ", class.line);
-    if let Some(name) = out.taken(String::from_utf8_lossy(alloc, class.name.as_slice())) {
-        out.push_str(name.as_str());
-    }
-    if let Some(parent) = &class.parent {
-        out.push(' ');
-        push_text(alloc, out, parent);
+/// The line, the name and the parent of a class.
+fn shown_class(alloc: Global, class: &ClassDecl) -> Result<String, AllocError> {
+    let line = class.line;
+    let name = String::from_utf8_lossy(alloc, class.name.as_slice())?;
+    match &class.parent {
+        Some(parent) => {
+            let parent = String::from_utf8_lossy(alloc, parent.as_slice())?;
+            format!(in alloc; "{line} {name} {parent}")
+        }
+        None => format!(in alloc; "{line} {name}"),
     }
 }
 
-// `class|LINE|NAME PARENT`: the line, the name and the parent of a copy.
-fn push_class(alloc: Global, out: &mut Line, line: u32, names: &str) -> Result<(), AllocError> {
-    let (word, parent) = cut(names, ' ');
-    let Some(name) = name(alloc, word)? else {
-        out.push_str("no name");
-        return Ok(());
-    };
-    let class = class_of(alloc, name, line, parent)?;
-    let copy = class.clone()?;
-    push_shown_class(alloc, out, &copy);
-    Ok(())
+/// `class|LINE|NAME PARENT`: the line, the name and the parent of a copy.
+fn class(alloc: Global, line: u32, names: &str) -> Result<String, AllocError> {
+    let (word, parent) = names.split_once(' ').unwrap_or((names, ""));
+    match name(alloc, word)? {
+        Some(name) => {
+            let class = class_of(alloc, name, line, parent)?;
+            shown_class(alloc, &class.clone()?)
+        }
+        None => String::from_str(alloc, "no name"),
+    }
 }
 
 /// An `if` on a line with one link, whose body is an empty block.
@@ -168,45 +133,36 @@ fn one_link(alloc: Global, line: u32) -> Result<Stmt, AllocError> {
     chain.whole(alloc, None)
 }
 
-// `chain|LINE|`: the line of the `if`, how many links it has, and whether an `else`.
-fn push_chain(alloc: Global, out: &mut Line, line: u32) -> Result<(), AllocError> {
+/// `chain|LINE|`: the line of the `if`, how many links it has, and whether an `else`.
+fn chain(alloc: Global, line: u32) -> Result<String, AllocError> {
     let whole = one_link(alloc, line)?;
+    let line = whole.line;
     match &whole.kind {
         StmtKind::If(links, other) => {
-            write!(out, "{} {}", whole.line, links.len());
-            out.push_truth(other.is_some());
+            let count = links.len();
+            let has_else = other.is_some();
+            format!(in alloc; "{line} {count} {has_else}")
         }
-        _ => out.push_str("no if"),
-    }
-    Ok(())
-}
-
-fn push_with_line(
-    alloc: Global,
-    out: &mut Line,
-    asked: &str,
-    rest: &str,
-) -> Result<(), AllocError> {
-    let (line, name) = cut(rest, '|');
-    let line = number_in(line);
-    match asked {
-        "function" => push_function(alloc, out, line, name),
-        "class" => push_class(alloc, out, line, name),
-        _ => push_chain(alloc, out, line),
+        _ => String::from_str(alloc, "no if"),
     }
 }
 
-pub fn push_answer(
-    alloc: Global,
-    out: &mut Line,
-    asked: &str,
-    rest: &str,
-) -> Result<(), AllocError> {
+fn answer_with_line(alloc: Global, asked: &str, rest: &str) -> Result<String, AllocError> {
+    let (line, name) = rest.split_once('|').unwrap_or((rest, ""));
+    let line = line.parse::<u32>().unwrap_or(0);
     match asked {
-        "list" => push_list(alloc, out, rest),
-        "boxed" => push_boxed(alloc, out, rest),
-        "shared" => push_shared(alloc, out, rest),
-        "bytes" => push_bytes(alloc, out, rest),
-        _ => push_with_line(alloc, out, asked, rest),
+        "function" => function(alloc, line, name),
+        "class" => class(alloc, line, name),
+        _ => chain(alloc, line),
+    }
+}
+
+pub fn answer(alloc: Global, asked: &str, rest: &str) -> Result<String, AllocError> {
+    match asked {
+        "list" => list(alloc, rest),
+        "boxed" => boxed(alloc, rest),
+        "shared" => shared(alloc, rest),
+        "bytes" => bytes(alloc, rest),
+        _ => answer_with_line(alloc, asked, rest),
     }
 }

@@ -1,7 +1,6 @@
 //! Sums of ones, the small grammar that is read by its form.
-use crate::parity::{Sign, is_odd};
+use resin_form::parity::{Sign, is_odd};
 use resin_form::{Cursor, Fault};
-use resin_table_rows::{Line, cut};
 use std::alloc::{AllocError, Global};
 
 fn sign(c: char) -> Sign {
@@ -33,13 +32,12 @@ fn spelled(found: Result<bool, Fault>) -> &'static str {
 }
 
 /// How many signs are read of `DEPTH|SIGNS`, and what comes of it.
-pub fn push_outcome(alloc: Global, out: &mut Line, rest: &str) -> Result<(), AllocError> {
-    let (depth, text) = cut(rest, '|');
+pub fn outcome(alloc: Global, rest: &str) -> Result<String, AllocError> {
+    let (depth, text) = rest.split_once('|').unwrap_or(("", rest));
     let depth = depth.parse::<usize>().unwrap_or(0);
     let signs = signs(alloc, text)?;
     let mut cursor = Cursor::new(&signs);
     let found = spelled(is_odd(&mut cursor, depth));
     let read = signs.len().saturating_sub(cursor.left());
-    write!(out, "{read} {found}");
-    Ok(())
+    format!(in alloc; "{read} {found}")
 }
