@@ -1,5 +1,5 @@
 //! Sums of ones, the small grammar that is read by its form.
-use resin_form::parity::{Sign, is_odd};
+use crate::parity::{Sign, is_odd};
 use resin_form::{Cursor, Fault};
 use std::alloc::{AllocError, Global};
 
