@@ -43,10 +43,15 @@ impl<'a> Row<'a> {
         self.count_in(self.field(i))
     }
 
+    /// Notes that the row can't be read.
+    pub fn fail(self) {
+        self.is_unreadable.set(true);
+    }
+
     // A field that spells no number makes the row unreadable, unless it is empty.
     fn miss(self, field: &str) {
         if !field.is_empty() {
-            self.is_unreadable.set(true);
+            self.fail();
         }
     }
 
