@@ -1,9 +1,10 @@
 //! Calls on an array.
 
+use crate::shown::{push_key, push_value};
 use crate::stop::push_array_fault;
-use crate::values::{key_in, push_key, push_value, value_in};
 use resin_ops::under::value::{Arr, ArrFault, Key, Value};
 use resin_table_rows::{Line, Row, cut};
+use resin_table_values::{key_in, value_in};
 use std::alloc::{AllocError, Global};
 
 // The array that the calls are made on, and one that is kept aside.

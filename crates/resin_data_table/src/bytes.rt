@@ -1,6 +1,6 @@
 //! Lists of bytes, the forms of numbers, keys and paths.
 
-use crate::fields::push_bytes;
+use crate::shown::push_bytes;
 use resin_ops::under::bytes::{
     Bytes, Header, HeaderList, NumberForm, canonical_key, decimal, lawful_path, leading, numeric,
 };

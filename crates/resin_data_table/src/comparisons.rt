@@ -1,14 +1,14 @@
 //! Comparisons of values, copies, and lists of values.
 
-use crate::fields::push_bytes;
 use crate::scalars::order_name;
-use crate::values::{key_in, push_value, value_in};
+use crate::shown::{push_bytes, push_value};
 use resin_ops::under::bytes::Bytes;
 use resin_ops::under::scalar::{Spent, Ticks};
 use resin_ops::under::value::{
     CompareFault, Fields, KeyText, Value, Values, equal, identical, order,
 };
 use resin_table_rows::{Line, Row, bytes_in};
+use resin_table_values::{key_in, value_in};
 use std::alloc::AllocError;
 
 /// Puts the answer of a call on values last; `false` where the name is none.

@@ -1,8 +1,9 @@
 //! Sets of policies.
 
-use crate::fields::{push_set, set_in};
+use crate::shown::push_set;
 use resin_ops::under::label::PSet;
 use resin_table_rows::{Line, Row};
+use resin_table_values::set_in;
 use std::alloc::{AllocError, Global};
 
 /// Puts the answer of a call on sets last; `false` where the name is none.

@@ -13,13 +13,12 @@
 mod arrays;
 mod bytes;
 mod comparisons;
-mod fields;
 mod labels;
 mod operators;
 mod scalars;
+mod shown;
 mod stop;
 mod texts;
-mod values;
 
 use resin_table_rows::{Line, Row, split_row};
 use std::alloc::{AllocError, Global};

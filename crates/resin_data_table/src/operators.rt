@@ -1,12 +1,12 @@
 //! The operators on values.
 
-use crate::fields::text_in;
+use crate::shown::{push_key, push_value};
 use crate::stop::push_stop;
-use crate::values::{key_in, push_key, push_value, value_in};
 use resin_ops::under::scalar::{CallStop, ScriptFault};
 use resin_ops::under::value::Value;
 use resin_ops::{Arith, arith, index_text, to_int, to_key, to_number, to_text};
 use resin_table_rows::{Line, Row};
+use resin_table_values::{key_in, text_in, value_in};
 use std::alloc::Global;
 
 /// Puts the answer of an operator last; `false` where the name is none.

@@ -1,10 +1,11 @@
 //! Labelled texts, and the lists that they give and take.
 ghost use Rattle.std.specs.Prelude.{◌≤◌, length};
 
-use crate::fields::{push_set, push_text, set_in, text_in};
+use crate::shown::{push_set, push_text};
 use crate::stop::push_text_fault;
 use resin_ops::under::lstr::{Builder, ByteTable, LText, Numbers, Parts, Sets, TextFault, Texts};
 use resin_table_rows::{Line, Row, bytes_in, cut};
+use resin_table_values::{set_in, text_in};
 use std::alloc::{AllocError, Global};
 
 /// Puts the answers of calls on a text, or what a list of the fields holds, last; `false` where the name is none.
