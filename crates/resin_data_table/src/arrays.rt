@@ -63,7 +63,7 @@ impl<'a> Pair<'a> {
             "len" => out.push_count(self.array.len()),
             "len_aside" => out.push_count(self.aside.len()),
             "is_empty" => out.push_truth(self.array.is_empty()),
-            "height" => write!(out, " {}", self.array.height()),
+            "height" => out.tell(" ", u64::from(self.array.height()), ""),
             "next_key" => push_next_key(out, &self.array),
             "key_at" => push_key_at(out, &self.array, self.row.count_in(rest) as usize),
             _ => return false,

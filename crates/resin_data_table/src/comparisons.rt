@@ -60,10 +60,10 @@ fn push_comparisons(out: &mut Line, a: &Value, b: &Value) {
 fn push_charges(out: &mut Line, a: &Value, b: &Value, left: u64) {
     let mut ticks = Ticks { left };
     push_equal(out, equal(a, b, &mut ticks));
-    write!(out, " {} left", ticks.left);
+    out.tell(" ", ticks.left, " left");
     let mut ticks = Ticks { left };
     push_identical(out, identical(a, b, &mut ticks));
-    write!(out, " {} left", ticks.left);
+    out.tell(" ", ticks.left, " left");
 }
 
 fn push_equal(out: &mut Line, answer: Result<bool, CompareFault>) {

@@ -93,7 +93,7 @@ fn push_left(out: &mut Line, spent: Result<(), Spent>, left: u64) {
     if spent.is_err() {
         out.push_word("Spent");
     }
-    write!(out, " {left} left");
+    out.tell(" ", left, " left");
 }
 
 // Spends what each step says of the ticks of the first field, and tells what is left.

@@ -9,7 +9,7 @@ use resin_table_rows::Line;
 pub fn push_bytes(out: &mut Line, bytes: &[u8]) {
     let count = bytes.len();
     if count > 100 {
-        write!(out, "({count})");
+        out.tell("(", count as u64, ")");
     } else {
         out.push_bytes(bytes);
     }
@@ -19,7 +19,7 @@ pub fn push_bytes(out: &mut Line, bytes: &[u8]) {
 pub fn push_set(out: &mut Line, set: &PSet) {
     out.push('{');
     for n in set.as_slice() {
-        write!(out, "{n}");
+        out.push_natural(u64::from(*n));
     }
     out.push('}');
 }
@@ -59,8 +59,8 @@ pub fn push_value(out: &mut Line, value: &Value) {
             push_set(out, set);
         }
         Value::Text(text) => push_labelled(out, text),
-        Value::Obj(n) => write!(out, " #{n}"),
-        Value::Arr(array) => write!(out, " [{}]", array.len()),
+        Value::Obj(n) => out.tell(" #", u64::from(*n), ""),
+        Value::Arr(array) => out.tell(" [", array.len() as u64, "]"),
     }
 }
 

@@ -138,7 +138,10 @@ fn push_shown(out: &mut Line, text: &LText) {
 
 fn push_range(out: &mut Line, range: Option<(usize, usize)>) {
     match range {
-        Some((from, to)) => write!(out, " {from}..{to}"),
+        Some((from, to)) => {
+            out.push_count(from);
+            out.tell("..", to as u64, "");
+        }
         None => out.push_word("none"),
     }
 }
@@ -231,7 +234,8 @@ fn numbers_of(row: Row<'_>) -> Result<Numbers, AllocError> {
 // Two texts joined in turn, as many pieces as the third field says: the bytes and the runs of what comes out.
 fn push_joined(row: Row<'_>, out: &mut Line) -> Result<(), TextFault> {
     let text = in_turn(row)?;
-    write!(out, " {} bytes {} runs", text.len(), text.run_count());
+    out.tell(" ", text.len() as u64, " bytes");
+    out.tell(" ", text.run_count() as u64, " runs");
     Ok(())
 }
 

@@ -21,7 +21,7 @@ fn made(row: Row<'_>, m: &mut Machine) -> Result<u32, Stop> {
 /// Makes an object of a class, and tells its number.
 pub fn push_made(row: Row<'_>, m: &mut Machine, out: &mut Line) {
     match made(row, m) {
-        Ok(object) => write!(out, " = {object}"),
+        Ok(object) => out.tell(" = ", u64::from(object), ""),
         Err(stop) => push_stop(out, stop),
     }
 }
@@ -103,7 +103,7 @@ pub fn push_thawed(row: Row<'_>, m: &mut Machine, out: &mut Line) {
 /// Puts how many bytes a read makes of so many with a shadow text that is none last.
 pub fn push_long(row: Row<'_>, m: &mut Machine, out: &mut Line) {
     match thawed(row.alloc, m, long_entry(row)) {
-        Ok(text) => write!(out, " = {}", text.len()),
+        Ok(text) => out.tell(" = ", text.len() as u64, ""),
         Err(stop) => push_stop(out, stop),
     }
 }

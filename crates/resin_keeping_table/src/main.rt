@@ -62,7 +62,7 @@ fn push_seen(row: Row<'_>, m: &mut Machine, out: &mut Line) -> bool {
         "freeze" => acts::push_frozen(row, m, out),
         "thaw" => acts::push_thawed(row, m, out),
         "show" => acts::push_object(row, m, out),
-        "ticks" => write!(out, " = {}", m.ticks()),
+        "ticks" => out.tell(" = ", m.ticks(), ""),
         "long" => acts::push_long(row, m, out),
         "many" => many::push_many(row, m, out),
         _ => return false,

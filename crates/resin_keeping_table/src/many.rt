@@ -66,9 +66,13 @@ fn entry_of(alloc: Global, text: &LText, shadow: Bytes) -> Result<Entry, AllocEr
 }
 
 fn push_read(alloc: Global, m: &mut Machine, out: &mut Line, text: &LText, shadow: Bytes) {
-    let len = shadow.as_slice().len();
+    let len = shadow.as_slice().len() as u64;
     match thawed(alloc, m, entry_of(alloc, text, shadow)) {
-        Ok(read) => write!(out, " = {len} {} {}", read.run_count(), m.heap().len()),
+        Ok(read) => {
+            out.tell(" = ", len, "");
+            out.push_count(read.run_count());
+            out.tell(" ", u64::from(m.heap().len()), "");
+        }
         Err(stop) => push_stop(out, stop),
     }
 }

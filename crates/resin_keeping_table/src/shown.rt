@@ -9,7 +9,11 @@ use resin_table_rows::Line;
 /// Puts why a row has no answer last: the fault, and its line.
 pub fn push_stop(out: &mut Line, stop: Stop) {
     match stop {
-        Stop::Fault(fault, line) => write!(out, " = {} {line}", fault.name()),
+        Stop::Fault(fault, line) => {
+            out.push_str(" = ");
+            out.push_str(fault.name());
+            out.tell(" ", u64::from(line), "");
+        }
         Stop::Memory => out.push_str(" = Memory 0"),
         _ => out.push_str(" = Stopped 0"),
     }
@@ -37,7 +41,7 @@ pub fn push_value(out: &mut Line, value: &Value) {
 
 fn push_inner(out: &mut Line, value: &Value) {
     match value {
-        Value::Arr(inner) => write!(out, " [{}]", inner.len()),
+        Value::Arr(inner) => out.tell(" [", inner.len() as u64, "]"),
         other => push_scalar(out, other),
     }
 }
@@ -51,13 +55,17 @@ fn push_array(out: &mut Line, array: &Arr) {
     }
     out.push_str(" ]");
     if let Some(key) = array.next_key() {
-        write!(out, "next={key}");
+        out.push_str("next=");
+        out.push_integer(key);
     }
 }
 
 fn push_key(out: &mut Line, key: &Key) {
     match key {
-        Key::Int(n) => write!(out, " {n}:"),
+        Key::Int(n) => {
+            out.push_number(*n);
+            out.push(':');
+        }
         Key::Text(text) => {
             out.push_str(" '");
             out.push_bytes(text.as_slice());
@@ -75,7 +83,7 @@ fn push_scalar(out: &mut Line, value: &Value) {
             push_set(out, set);
         }
         Value::Text(text) => push_quoted(out, text),
-        Value::Obj(n) => write!(out, " #{n}"),
+        Value::Obj(n) => out.tell(" #", u64::from(*n), ""),
     }
 }
 
@@ -108,7 +116,6 @@ fn push_set(out: &mut Line, set: &PSet) {
 
 fn push_numbers(out: &mut Line, numbers: &[u32]) {
     for i in 0..numbers.len() {
-        out.push_str(if i > 0 { "," } else { "" });
-        write!(out, "{}", numbers[i]);
+        out.tell(if i > 0 { "," } else { "" }, u64::from(numbers[i]), "");
     }
 }

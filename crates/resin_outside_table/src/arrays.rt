@@ -9,7 +9,10 @@ use std::alloc::{AllocError, Global};
 
 fn push_key(out: &mut Line, key: &Key) {
     match key {
-        Key::Int(n) => write!(out, "#{n}"),
+        Key::Int(n) => {
+            out.push('#');
+            out.push_integer(*n);
+        }
         Key::Text(name) => push_bytes(out, name.as_slice()),
     }
     out.push('>');

@@ -95,7 +95,8 @@ pub fn push_long_stream(alloc: Global, out: &mut Line, times: &str) -> Result<()
     out.note(add_all(&mut connections, 3, b"ab", times));
     let right = taken(&mut connections, 3, times.saturating_mul(2));
     let left = connections.stream(3).len();
-    write!(out, "{right} lengths right; {left} left");
+    out.tell("", right as u64, " lengths right; ");
+    out.tell("", left as u64, " left");
     Ok(())
 }
 
@@ -120,6 +121,6 @@ pub fn push_drained(alloc: Global, out: &mut Line, words: &str) -> Result<(), Al
     for conn in 0..count.parse::<u16>().unwrap_or(0) {
         out.note(drain(&mut connections, conn, &piece, number(left)));
     }
-    write!(out, "{} left", connections.stream(0).len());
+    out.tell("", connections.stream(0).len() as u64, " left");
     Ok(())
 }

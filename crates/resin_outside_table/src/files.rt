@@ -33,9 +33,8 @@ pub fn push_whether(out: &mut Line, answer: Result<bool, KeepFault>) {
 
 /// Adds how many calls were made, and how many of them are listed as failed.
 pub fn push_calls(out: &mut Line, calls: &Calls) {
-    let made = calls.made;
-    let failed = calls.failed.as_slice().len();
-    write!(out, "{made} made, {failed} failed");
+    out.tell("", calls.made, " made, ");
+    out.tell("", calls.failed.as_slice().len() as u64, " failed");
 }
 
 // Adds an entry's bytes and its shadow text.
@@ -111,10 +110,7 @@ fn push_call<F: Files>(out: &mut Line, files: &mut F, name: &str, given: &Operan
         "read" => push_read(out, files.read(&given.path)),
         "exists" => push_whether(out, files.exists(&given.path)),
         "remove" => push_whether(out, files.remove(&given.path)),
-        "write" => push_written(
-            out,
-            files.write(&given.path, &given.bytes, &given.shadow),
-        ),
+        "write" => push_written(out, files.write(&given.path, &given.bytes, &given.shadow)),
         _ => out.push('?'),
     }
 }
@@ -224,12 +220,7 @@ fn push_fake_step(
 }
 
 /// Files in memory of which the listed calls fail.
-pub fn push_fake(
-    alloc: Global,
-    out: &mut Line,
-    fail: &str,
-    steps: &str,
-) -> Result<(), AllocError> {
+pub fn push_fake(alloc: Global, out: &mut Line, fail: &str, steps: &str) -> Result<(), AllocError> {
     let fail = numbers(alloc, fail)?;
     let mut files = FakeFiles::new(alloc, fail);
     for step in steps.split('|') {

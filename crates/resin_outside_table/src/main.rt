@@ -73,8 +73,8 @@ fn stored_rows(alloc: Global) -> Result<StoredRows, AllocError> {
 fn push_lists(alloc: Global, out: &mut Line) -> Result<(), AllocError> {
     let names = names(alloc)?;
     let rows = stored_rows(alloc)?;
-    let (names, rows) = (names.as_slice().len(), rows.as_slice().len());
-    write!(out, "names {names}; rows {rows}");
+    out.tell("names ", names.as_slice().len() as u64, "; ");
+    out.tell("rows ", rows.as_slice().len() as u64, "");
     Ok(())
 }
 

@@ -44,8 +44,8 @@ fn step_of(alloc: Global, fields: &str) -> Result<Step, AllocError> {
 fn push_asked(out: &mut Line, step: &Step) {
     match step {
         Step::Need => out.push_str("more"),
-        Step::Got { used, .. } => write!(out, "request of {used} bytes"),
-        Step::Refuse { status } => write!(out, "refused {status}"),
+        Step::Got { used, .. } => out.tell("request of ", *used, " bytes"),
+        Step::Refuse { status } => out.tell("refused ", u64::from(*status), ""),
     }
 }
 
@@ -57,8 +57,11 @@ fn push_head(out: &mut Line, step: Result<Step, AllocError>) {
 
 fn push_left(out: &mut Line, mark: Mark) {
     match mark {
-        Mark::Head { searched } => write!(out, "; {searched} bytes searched"),
-        Mark::Body { end, body } => write!(out, "; head of {end} bytes, body of {body}"),
+        Mark::Head { searched } => out.tell("; ", searched as u64, " bytes searched"),
+        Mark::Body { end, body } => {
+            out.tell("; head of ", end as u64, " bytes, ");
+            out.tell("body of ", body, "");
+        }
     }
 }
 
@@ -103,7 +106,7 @@ fn push_request(out: &mut Line, step: &Step) {
     match step {
         Step::Got { request, used } => {
             push_parts(out, request);
-            write!(out, "; {used} bytes");
+            out.tell("; ", *used, " bytes");
         }
         _ => out.push_str("no request"),
     }
@@ -165,7 +168,14 @@ fn response(alloc: Global, is_head: bool, fields: &str) -> Result<Bytes, AllocEr
     let (name, value) = cut(rest, '|');
     let status = status.parse::<u16>().unwrap_or(0);
     let headers = headers_of(alloc, name, value)?;
-    response_text(alloc, status, &headers, kind.as_bytes(), body.as_bytes(), is_head)
+    response_text(
+        alloc,
+        status,
+        &headers,
+        kind.as_bytes(),
+        body.as_bytes(),
+        is_head,
+    )
 }
 
 /// Adds the text of a response.

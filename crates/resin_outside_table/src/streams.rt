@@ -19,16 +19,12 @@ pub fn numbers(alloc: Global, words: &str) -> Result<FailList, AllocError> {
 }
 
 // Takes bytes into a buffer, and adds how many.
-fn push_take<S: Source>(
-    out: &mut Line,
-    source: &mut S,
-    buffer: &mut [u8],
-) {
+fn push_take<S: Source>(out: &mut Line, source: &mut S, buffer: &mut [u8]) {
     if buffer.is_empty() {
         return;
     }
     match source.take(buffer) {
-        Ok(count) => write!(out, "{count}"),
+        Ok(count) => out.push_natural(count as u64),
         Err(_) => out.push_str("failed"),
     }
 }
@@ -83,7 +79,7 @@ pub fn push_std_source(alloc: Global, out: &mut Line, fields: &str) -> Result<()
 
 fn push_given(out: &mut Line, given: Result<usize, KeepFault>) {
     match given {
-        Ok(count) => write!(out, "{count}"),
+        Ok(count) => out.push_natural(count as u64),
         Err(fault) => push_fault(out, fault),
     }
     out.push_str("; ");

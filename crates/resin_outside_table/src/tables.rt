@@ -41,7 +41,7 @@ fn one_cell(alloc: Global, text: &str) -> Result<Cells, AllocError> {
 fn push_numbers(out: &mut Line, rows: &Rows) {
     out.push_str("rows");
     for row in rows.as_slice() {
-        write!(out, " {}", row.number);
+        out.tell(" ", row.number, "");
     }
 }
 
@@ -76,7 +76,7 @@ fn push_columns(out: &mut Line, answer: Result<Option<Columns>, KeepFault>) {
 
 fn push_number(out: &mut Line, answer: Result<Option<u64>, KeepFault>) {
     match answer {
-        Ok(Some(number)) => write!(out, "row {number}"),
+        Ok(Some(number)) => out.tell("row ", number, ""),
         Ok(None) => out.push_str("none"),
         Err(fault) => push_fault(out, fault),
     }
@@ -273,12 +273,7 @@ fn push_fake_step(
 }
 
 /// Tables in memory of which the listed calls fail.
-pub fn push_fake(
-    alloc: Global,
-    out: &mut Line,
-    fail: &str,
-    steps: &str,
-) -> Result<(), AllocError> {
+pub fn push_fake(alloc: Global, out: &mut Line, fail: &str, steps: &str) -> Result<(), AllocError> {
     let fail = numbers(alloc, fail)?;
     let mut tables = FakeTables::new(alloc, fail);
     for step in steps.split('|') {

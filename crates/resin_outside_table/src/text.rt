@@ -14,7 +14,7 @@ fn push_byte(out: &mut Line, b: u8) {
         b'\t' => out.push_str("\\t"),
         b'\\' => out.push_str("\\\\"),
         32..=126 => out.push(b as char),
-        _ => write!(out, "\\x{b:02x}"),
+        _ => out.push_hexadecimal(b),
     }
 }
 

@@ -6,7 +6,7 @@ use std::alloc::{AllocError, Global};
 
 fn push_fault(out: &mut Line, fault: TraceFault) {
     match fault {
-        TraceFault::Bad { offset } => write!(out, "bad at {offset}"),
+        TraceFault::Bad { offset } => out.tell("bad at ", offset, ""),
         TraceFault::TooLong => out.push_str("too long"),
         TraceFault::Memory => out.push_str("memory"),
     }
@@ -20,7 +20,7 @@ fn push_whether(out: &mut Line, answer: Result<(), TraceFault>) {
 }
 
 fn push_piece(out: &mut Line, conn: u16, bytes: &[u8]) {
-    write!(out, "{conn} '");
+    out.tell("", u64::from(conn), " '");
     push_bytes(out, bytes);
     out.push('\'');
 }
@@ -28,7 +28,7 @@ fn push_piece(out: &mut Line, conn: u16, bytes: &[u8]) {
 fn push_event(out: &mut Line, event: &TraceEvent) {
     match event {
         TraceEvent::Piece { conn, bytes } => push_piece(out, *conn, bytes.as_slice()),
-        TraceEvent::End { conn } => write!(out, "{conn} end"),
+        TraceEvent::End { conn } => out.tell("", u64::from(*conn), " end"),
     }
 }
 
@@ -120,7 +120,7 @@ fn fed(reader: &mut TraceReader, text: &[u8], times: usize) -> Result<usize, Tra
 // Adds a count of records, or a fault.
 fn push_count(out: &mut Line, count: Result<usize, TraceFault>) {
     match count {
-        Ok(count) => write!(out, "{count} records"),
+        Ok(count) => out.tell("", count as u64, " records"),
         Err(fault) => push_fault(out, fault),
     }
     out.push_str("; ");
@@ -150,7 +150,7 @@ pub fn push_endless(
 fn push_length(out: &mut Line, record: Result<Option<TraceEvent>, TraceFault>) {
     match record {
         Ok(Some(TraceEvent::Piece { bytes, .. })) => {
-            write!(out, "; {} bytes; ", bytes.as_slice().len());
+            out.tell("; ", bytes.as_slice().len() as u64, " bytes; ");
         }
         _ => out.push_str("; no piece; "),
     }

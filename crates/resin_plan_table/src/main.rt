@@ -74,7 +74,7 @@ fn push_statement(
     let text = plain(shelf.board.alloc, field)?;
     match read_sql(shelf.board.alloc, &text) {
         Ok(statement) => push_outcome(out, &text, &statement, shelf, calls)?,
-        Err(SqlFault::Bad { offset }) => write!(out, "syntax at {offset}"),
+        Err(SqlFault::Bad { offset }) => out.tell("syntax at ", offset, ""),
         Err(SqlFault::Memory) => return Err(AllocError),
     }
     out.push_str(" | ");

@@ -95,7 +95,7 @@ fn push_columns(out: &mut Line, columns: &[Column]) {
 }
 
 fn push_held_row(out: &mut Line, row: &Row) {
-    write!(out, "; {}", row.number);
+    out.tell("; ", row.number, "");
     push_cells(out, row.cells.as_slice());
 }
 
@@ -110,7 +110,11 @@ fn push_held(out: &mut Line, table: &Held) {
 }
 
 fn kind_of(word: &str) -> Kind {
-    if word == "I" { Kind::Integer } else { Kind::Text }
+    if word == "I" {
+        Kind::Integer
+    } else {
+        Kind::Text
+    }
 }
 
 /// Puts a column last that a word spells; another word is none.
@@ -239,7 +243,8 @@ impl Board {
     pub(crate) fn put_table(&mut self, field: &str) -> Result<(), AllocError> {
         let (name, words) = cut(field, ' ');
         let columns = columns_of(self.alloc, words)?;
-        self.tables.push(held(self.alloc, name.as_bytes(), columns)?)?;
+        self.tables
+            .push(held(self.alloc, name.as_bytes(), columns)?)?;
         Ok(())
     }
 
@@ -354,7 +359,7 @@ impl Board {
         push_cells(&mut self.log, cells.as_slice());
         let number = self.add_row(name, cells)?;
         match number {
-            Some(number) => write!(self.log, " {number};"),
+            Some(number) => self.log.tell(" ", number, ";"),
             None => self.log.push_str(" none;"),
         }
         Ok(number)
@@ -371,7 +376,7 @@ impl Board {
 
     fn changed_row(&mut self, name: &[u8], row: u64, cells: &Cells) -> Result<bool, KeepFault> {
         self.begin("update", name)?;
-        write!(self.log, " {row}:");
+        self.log.tell(" ", row, ":");
         push_cells(&mut self.log, cells.as_slice());
         let was = self.set_row(name, row, cells)?;
         self.push_whether(was);
@@ -380,7 +385,7 @@ impl Board {
 
     fn taken_row(&mut self, name: &[u8], row: u64) -> Result<bool, KeepFault> {
         self.begin("delete", name)?;
-        write!(self.log, " {row}");
+        self.log.tell(" ", row, "");
         let i = self.place(name);
         let was = i < self.tables.len() && self.tables[i].take_out(row);
         self.push_whether(was);

@@ -8,7 +8,7 @@ use resin_table_rows::Line;
 fn push_byte(out: &mut Line, b: u8) {
     match b {
         32..=126 => out.push(b as char),
-        _ => write!(out, "\\x{b:02x}"),
+        _ => out.push_hexadecimal(b),
     }
 }
 
@@ -21,7 +21,7 @@ pub(crate) fn push_bytes(out: &mut Line, bytes: &[u8]) {
 pub(crate) fn push_cell(out: &mut Line, cell: &Cell) {
     match cell {
         Cell::Null => out.push('N'),
-        Cell::Int(n) => write!(out, "{n}"),
+        Cell::Int(n) => out.push_integer(*n),
         Cell::Text(text) => {
             out.push('\'');
             push_bytes(out, text.as_slice());
@@ -80,14 +80,14 @@ fn stop(stop: SqlStop) -> &'static str {
 
 fn push_result(out: &mut Line, result: &SqlResult) {
     match result {
-        SqlResult::Count(count) => write!(out, "count {count}"),
+        SqlResult::Count(count) => out.tell("count ", *count, ""),
         SqlResult::Rows(names, rows) => push_rows(out, names, rows),
     }
 }
 
 fn push_carried_out(out: &mut Line, answer: &SqlAnswer) {
     push_result(out, &answer.result);
-    write!(out, " of {}", answer.scanned);
+    out.tell(" of ", answer.scanned, "");
 }
 
 pub(crate) fn push_answer(out: &mut Line, answer: &Result<SqlAnswer, SqlStop>) {
@@ -99,8 +99,8 @@ pub(crate) fn push_answer(out: &mut Line, answer: &Result<SqlAnswer, SqlStop>) {
 
 /// Adds how many calls were made, and which are listed as failed.
 pub(crate) fn push_numbers(out: &mut Line, calls: &Calls) {
-    write!(out, " # {}", calls.made);
+    out.tell(" # ", calls.made, "");
     for number in calls.failed.as_slice() {
-        write!(out, " failed {number}");
+        out.tell(" failed ", *number, "");
     }
 }

@@ -29,7 +29,7 @@ pub fn push_integer(out: &mut Line, n: i64) {
 }
 
 pub fn push_count(out: &mut Line, n: u64) {
-    write!(out, " = {n}");
+    out.tell(" = ", n, "");
 }
 
 /// Puts an integer last, if there is one.

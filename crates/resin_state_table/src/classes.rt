@@ -130,7 +130,8 @@ fn push_method(alloc: Global, classes: &Classes, c: u32, name: &[u8], out: &mut 
         return push_missing(out);
     };
     let MethodAt { class, index } = at;
-    write!(out, " = {class} {index} ");
+    out.tell(" = ", u64::from(class), " ");
+    out.tell("", u64::from(index), " ");
     let written = String::from_utf8_lossy(alloc, classes.function(at).name.as_slice());
     if let Some(written) = out.taken(written) {
         out.push_str(written.as_str());

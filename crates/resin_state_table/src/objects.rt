@@ -45,7 +45,10 @@ fn push_field(out: &mut Line, is_first: bool, name: &[u8], value: &Value) {
         out.push(char::from(*b));
     }
     match integer(Some(value)) {
-        Some(n) => write!(out, ":{n}"),
+        Some(n) => {
+            out.push(':');
+            out.push_integer(n);
+        }
         None => out.push_str(":none"),
     }
 }

@@ -220,11 +220,11 @@ fn close(alloc: Global, stage: &mut Stage, out: &mut Line) -> Result<(), AllocEr
 fn finish(alloc: Global, stage: &mut Stage, out: &mut Line) {
     let whole = mem::replace(stage, Stage::new(alloc));
     let (status, headers, body, mail, journal) = whole.into_parts();
-    write!(out, " = {status} | ");
+    out.tell(" = ", u64::from(status), " | ");
     push_header_lines(out, headers.as_slice());
     push_behind_bar(alloc, out, body.as_slice());
     push_behind_bar(alloc, out, mail.as_slice());
-    write!(out, " | {}", journal.as_slice().len());
+    out.tell(" | ", journal.as_slice().len() as u64, "");
 }
 
 fn send(stage: &mut Stage, row: Row<'_>, out: &mut Line) -> Result<(), AllocError> {

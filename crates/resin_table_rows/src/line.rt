@@ -57,20 +57,47 @@ impl Line {
         self.note(done);
     }
 
-    /// What `write!` calls.
+    /// What `write!` calls. Each place that writes so is dearer to prove than one that puts the pieces last.
     pub fn write_fmt<D: Display + Drop>(&mut self, value: D) {
         let done = self.text.write_fmt(value);
         self.note(done);
     }
 
+    /// Puts an integer last.
+    pub fn push_integer(&mut self, n: i64) {
+        let done = write!(self.text, "{n}");
+        self.note(done);
+    }
+
+    /// Puts a natural number last.
+    pub fn push_natural(&mut self, n: u64) {
+        let done = write!(self.text, "{n}");
+        self.note(done);
+    }
+
+    /// Puts a natural number last, between two texts.
+    pub fn tell(&mut self, before: &str, n: u64, behind: &str) {
+        self.push_str(before);
+        self.push_natural(n);
+        self.push_str(behind);
+    }
+
     /// Puts a number last, behind a space.
     pub fn push_number(&mut self, number: i64) {
-        write!(self, " {number}");
+        self.push(' ');
+        self.push_integer(number);
     }
 
     /// Puts a count last, behind a space.
     pub fn push_count(&mut self, count: usize) {
-        write!(self, " {count}");
+        self.push(' ');
+        self.push_natural(count as u64);
+    }
+
+    /// Puts a byte last as `\x` and two digits.
+    pub fn push_hexadecimal(&mut self, b: u8) {
+        let done = write!(self.text, "\\x{b:02x}");
+        self.note(done);
     }
 
     /// Puts `true` or `false` last, behind a space.
@@ -92,7 +119,7 @@ impl Line {
             b'\t' => self.push_str("\\t"),
             b'\\' => self.push_str("\\\\"),
             33..=126 => self.push(char::from(b)),
-            _ => write!(self, "\\x{b:02x}"),
+            _ => self.push_hexadecimal(b),
         }
     }
 
