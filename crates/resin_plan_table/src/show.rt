@@ -78,15 +78,15 @@ fn stop(stop: SqlStop) -> &'static str {
     }
 }
 
-fn push_result(out: &mut Line, result: &SqlResult) {
-    match result {
+fn push_found(out: &mut Line, found: &SqlResult) {
+    match found {
         SqlResult::Count(count) => out.tell("count ", *count, ""),
         SqlResult::Rows(names, rows) => push_rows(out, names, rows),
     }
 }
 
 fn push_carried_out(out: &mut Line, answer: &SqlAnswer) {
-    push_result(out, &answer.result);
+    push_found(out, &answer.result);
     out.tell(" of ", answer.scanned, "");
 }
 
