@@ -1,69 +1,105 @@
 //! Lists of bytes, the forms of numbers, keys and paths.
 
-use crate::fields::{Arguments, bytes_in, integer_in, push_bytes};
-use crate::stop::Stop;
+use crate::shown::push_bytes;
 use resin_ops::under::bytes::{
     Bytes, Header, HeaderList, NumberForm, canonical_key, decimal, lawful_path, leading, numeric,
 };
-use std::alloc::AllocError;
+use resin_table_rows::{Line, Row, bytes_in, cut};
+use std::alloc::{AllocError, Global};
 
-/// Puts the answer of a call on bytes last.
-pub fn call(name: &str, arguments: Arguments<'_>, out: &mut String) -> Result<(), Stop> {
-    match name {
-        "bytes" => pushed(arguments, out),
-        "headers" => Ok(headers(arguments, out)?),
-        "decimal" => {
-            let n = integer_in(arguments.field(0))?;
-            out.push(' ')?;
-            Ok(push_bytes(out, decimal(arguments.alloc, n)?.as_slice())?)
-        }
-        _ => Ok(answer_on(name, &arguments.bytes(0)?, out)?),
-    }
+/// Puts the answer of a call on bytes last; `false` where the name is none.
+pub fn call(row: Row<'_>, out: &mut Line) -> bool {
+    let done = match row.field(0) {
+        "bytes" => push_list(row, out),
+        "headers" => push_headers(row, out),
+        "decimal" => push_decimal(row, out),
+        "numeric" | "leading" | "canonical_key" | "lawful_path" => push_read(row, out),
+        _ => return false,
+    };
+    out.note(done);
+    true
 }
 
-fn answer_on(name: &str, bytes: &[u8], out: &mut String) -> Result<(), AllocError> {
+fn push_decimal(row: Row<'_>, out: &mut Line) -> Result<(), AllocError> {
+    let decimal = decimal(row.alloc, row.integer(1))?;
+    out.push(' ');
+    push_bytes(out, decimal.as_slice());
+    Ok(())
+}
+
+fn push_read(row: Row<'_>, out: &mut Line) -> Result<(), AllocError> {
+    let bytes = bytes_in(row.alloc, row.field(1))?;
+    push_answer_on(row.field(0), &bytes, out);
+    Ok(())
+}
+
+fn push_answer_on(name: &str, bytes: &[u8], out: &mut Line) {
     match name {
         "numeric" => push_form(out, numeric(bytes)),
         "leading" => push_form(out, leading(bytes)),
-        "canonical_key" => match canonical_key(bytes) {
-            Some(n) => write!(out, " {n}"),
-            None => out.push_str(" none"),
-        },
-        _ => write!(out, " {}", lawful_path(bytes)),
+        "canonical_key" => push_key(out, canonical_key(bytes)),
+        _ => out.push_truth(lawful_path(bytes)),
     }
 }
 
-fn push_form(out: &mut String, form: NumberForm) -> Result<(), AllocError> {
+fn push_form(out: &mut Line, form: NumberForm) {
     match form {
-        NumberForm::Int(n) => write!(out, " {n}"),
-        NumberForm::Float => out.push_str(" Float"),
-        NumberForm::Not => out.push_str(" Not"),
+        NumberForm::Int(n) => out.push_number(n),
+        NumberForm::Float => out.push_word("Float"),
+        NumberForm::Not => out.push_word("Not"),
     }
 }
 
-// The bytes of the first field, then what each step leaves of them.
-fn pushed(arguments: Arguments<'_>, out: &mut String) -> Result<(), Stop> {
-    let mut list = Bytes::from_slice(arguments.alloc, &arguments.bytes(0)?)?;
-    for step in arguments.steps() {
-        match step.split_once(' ') {
-            Some(("push_slice", more)) => list.push_slice(&bytes_in(arguments.alloc, more)?)?,
-            Some(("push", more)) => list.push(more.as_bytes().first().copied().unwrap_or(0))?,
-            _ => return Err(Stop::Unreadable),
-        }
-        out.push(' ')?;
-        push_bytes(out, list.as_slice())?;
+fn push_key(out: &mut Line, key: Option<i64>) {
+    match key {
+        Some(n) => out.push_number(n),
+        None => out.push_word("none"),
+    }
+}
+
+fn list_in(alloc: Global, field: &str) -> Result<Bytes, AllocError> {
+    let bytes = bytes_in(alloc, field)?;
+    Bytes::from_slice(alloc, &bytes)
+}
+
+fn push_slice(alloc: Global, list: &mut Bytes, field: &str) -> Result<(), AllocError> {
+    let bytes = bytes_in(alloc, field)?;
+    list.push_slice(&bytes)
+}
+
+fn change(alloc: Global, list: &mut Bytes, step: &str) -> Result<(), AllocError> {
+    let (name, more) = cut(step, ' ');
+    if name == "push_slice" {
+        push_slice(alloc, list, more)
+    } else {
+        list.push(more.as_bytes().first().copied().unwrap_or(0))
+    }
+}
+
+// What each step leaves of the bytes of the first field.
+fn push_list(row: Row<'_>, out: &mut Line) -> Result<(), AllocError> {
+    let mut list = list_in(row.alloc, row.field(1))?;
+    for step in row.fields_from(2) {
+        let done = change(row.alloc, &mut list, step);
+        out.note(done);
+        out.push(' ');
+        push_bytes(out, list.as_slice());
     }
     Ok(())
 }
 
+fn header(alloc: Global, name: &str) -> Result<Header, AllocError> {
+    let name = Bytes::from_slice(alloc, name.as_bytes())?;
+    let value = Bytes::new(alloc);
+    Ok(Header { name, value })
+}
+
 // A list of headers without values, one for each name.
-fn headers(arguments: Arguments<'_>, out: &mut String) -> Result<(), AllocError> {
-    let mut list = HeaderList::new(arguments.alloc);
-    for name in arguments.fields {
-        list.push(Header {
-            name: Bytes::from_slice(arguments.alloc, name.as_bytes())?,
-            value: Bytes::new(arguments.alloc),
-        })?;
+fn push_headers(row: Row<'_>, out: &mut Line) -> Result<(), AllocError> {
+    let mut list = HeaderList::new(row.alloc);
+    for name in row.fields_from(1) {
+        list.push(header(row.alloc, name)?)?;
     }
-    write!(out, " {}", list.as_slice().len())
+    out.push_count(list.as_slice().len());
+    Ok(())
 }

@@ -13,57 +13,60 @@
 mod arrays;
 mod bytes;
 mod comparisons;
-mod fields;
 mod labels;
 mod operators;
 mod scalars;
+mod shown;
 mod stop;
 mod texts;
-mod values;
 
-use fields::Arguments;
+use resin_table_rows::{Line, Row, split_row};
 use std::alloc::{AllocError, Global};
+use std::cell::Cell;
 use std::io;
-use stop::Stop;
 
 // Puts the answer of a call last.
-fn call(name: &str, arguments: Arguments<'_>, out: &mut String) -> Result<(), Stop> {
-    match name {
-        "bytes" | "headers" | "decimal" | "numeric" | "leading" | "canonical_key" | "lawful_path" =>
-            bytes::call(name, arguments, out),
-        "union" | "without" | "contains" | "same_as_copy" | "differs" => {
-            labels::call(name, arguments, out)
-        }
-        "text" | "joined" | "sets" | "texts" | "numbers" => texts::call(name, arguments, out),
-        "scalar" | "compare_scalars" | "ticks" | "name" => scalars::call(name, arguments, out),
-        "array" => arrays::script(arguments, out),
-        "compare" | "charges" | "copy" | "values" | "fields" | "key_text" | "key_copy" => {
-            comparisons::call(name, arguments, out)
-        }
-        "arith" | "index_text" | "to_text" | "to_number" | "to_int" | "to_key" => {
-            operators::call(name, arguments, out)
-        }
-        _ => Err(Stop::Unreadable),
+fn push_answer(row: Row<'_>, out: &mut Line) {
+    let is_known = bytes::call(row, out)
+        || labels::call(row, out)
+        || texts::call(row, out)
+        || scalars::call(row, out)
+        || arrays::call(row, out)
+        || comparisons::call(row, out)
+        || operators::call(row, out);
+    if !is_known {
+        out.push_word("Unreadable");
     }
+}
+
+// Puts the answer of a row behind it.
+fn push_row(alloc: Global, row: &str, out: &mut Line) -> Result<(), AllocError> {
+    let fields = split_row(alloc, row)?;
+    let is_unreadable = Cell::new(false);
+    out.push_str(" =");
+    push_answer(
+        Row {
+            alloc,
+            fields: &fields,
+            is_unreadable: &is_unreadable,
+        },
+        out,
+    );
+    if is_unreadable.get() {
+        out.push_word("Unreadable");
+    }
+    Ok(())
 }
 
 // The line of a row and its answer.
 fn answered(alloc: Global, row: &str) -> Result<String, AllocError> {
-    let mut out = String::from_str(alloc, row)?;
-    if row.starts_with('#') {
-        return Ok(out);
+    let mut out = Line::new(alloc);
+    out.push_str(row);
+    if !row.starts_with('#') {
+        let done = push_row(alloc, row, &mut out);
+        out.note(done);
     }
-    out.push_str(" =")?;
-    let fields: Vec<&str> = row.split('|').collect(alloc)?;
-    let name = fields.first().copied().unwrap_or("");
-    let arguments = Arguments {
-        alloc,
-        fields: fields.get(1..).unwrap_or(&[]),
-    };
-    if let Err(stop) = call(name, arguments, &mut out) {
-        write!(out, " {}", stop.name())?;
-    }
-    Ok(out)
+    out.end()
 }
 
 fn main(rt: HostRuntime) -> io::Result<()> {

@@ -1,22 +1,32 @@
 //! Scalars: conversions, comparisons, ticks and names.
 
-use crate::fields::{Arguments, bytes_in, integer_in, number_in};
-use crate::stop::Stop;
+use crate::stop::stop_name;
 use resin_ops::under::scalar::{
     CallStop, ErrorKind, NumFault, Scalar, ScriptFault, Spent, Ticks, cast_int, compare, number,
     truth,
 };
+use resin_table_rows::{Line, Row, bytes_in};
 use std::alloc::{AllocError, Global};
 use std::cmp::Ordering;
 
-/// Puts the answer of a call on scalars last.
-pub fn call(name: &str, arguments: Arguments<'_>, out: &mut String) -> Result<(), Stop> {
-    match name {
-        "scalar" => conversions(arguments, out),
-        "compare_scalars" => comparison(arguments, out),
-        "ticks" => spend(arguments, out),
-        _ => names(arguments.field(0), out),
+/// Puts the answer of a call on scalars last; `false` where the name is none.
+pub fn call(row: Row<'_>, out: &mut Line) -> bool {
+    let done = match row.field(0) {
+        "scalar" => push_conversions(row, out),
+        "compare_scalars" => push_comparison(row, out),
+        _ => return spend_or_name(row, out),
+    };
+    out.note(done);
+    true
+}
+
+fn spend_or_name(row: Row<'_>, out: &mut Line) -> bool {
+    match row.field(0) {
+        "ticks" => push_spent(row, out),
+        "name" => push_named(row.field(1), out),
+        _ => return false,
     }
+    true
 }
 
 // The bytes of a scalar that is a text; none of another one.
@@ -28,43 +38,45 @@ fn inside(alloc: Global, field: &str) -> Result<Option<Vec<u8>>, AllocError> {
 }
 
 // The scalar that a field spells, a text with the bytes that were read.
-fn scalar_in<'a>(field: &str, text: &'a Option<Vec<u8>>) -> Result<Scalar<'a>, Stop> {
-    match (text, field) {
-        (Some(bytes), _) => Ok(Scalar::Text(bytes)),
-        (None, "null") => Ok(Scalar::Null),
-        (None, "true") => Ok(Scalar::Bool(true)),
-        (None, "false") => Ok(Scalar::Bool(false)),
-        _ => Ok(Scalar::Int(integer_in(field)?)),
+fn scalar_in<'a>(row: Row<'_>, i: usize, text: &'a Option<Vec<u8>>) -> Scalar<'a> {
+    match (text, row.field(i)) {
+        (Some(bytes), _) => Scalar::Text(bytes),
+        (None, "null") => Scalar::Null,
+        (None, "true") => Scalar::Bool(true),
+        (None, "false") => Scalar::Bool(false),
+        _ => Scalar::Int(row.integer(i)),
     }
 }
 
 // A scalar as a boolean, as a number in arithmetic and by `(int)`.
-fn conversions(arguments: Arguments<'_>, out: &mut String) -> Result<(), Stop> {
-    let field = arguments.field(0);
-    let text = inside(arguments.alloc, field)?;
-    let scalar = scalar_in(field, &text)?;
-    write!(out, " {}", truth(&scalar))?;
-    push_number(out, number(&scalar))?;
-    Ok(push_number(out, cast_int(&scalar))?)
+fn push_conversions(row: Row<'_>, out: &mut Line) -> Result<(), AllocError> {
+    let text = inside(row.alloc, row.field(1))?;
+    let scalar = scalar_in(row, 1, &text);
+    out.push_truth(truth(&scalar));
+    push_number(out, number(&scalar));
+    push_number(out, cast_int(&scalar));
+    Ok(())
 }
 
-fn push_number(out: &mut String, n: Result<i64, NumFault>) -> Result<(), AllocError> {
+fn push_number(out: &mut Line, n: Result<i64, NumFault>) {
     match n {
-        Ok(n) => write!(out, " {n}"),
-        Err(NumFault::Float) => out.push_str(" Float"),
-        Err(NumFault::Not) => out.push_str(" Not"),
+        Ok(n) => out.push_number(n),
+        Err(NumFault::Float) => out.push_word("Float"),
+        Err(NumFault::Not) => out.push_word("Not"),
     }
 }
 
-fn comparison(arguments: Arguments<'_>, out: &mut String) -> Result<(), Stop> {
-    let (left, right) = (arguments.field(0), arguments.field(1));
-    let left_text = inside(arguments.alloc, left)?;
-    let right_text = inside(arguments.alloc, right)?;
-    let a = scalar_in(left, &left_text)?;
-    let b = scalar_in(right, &right_text)?;
-    match compare(&a, &b) {
-        Ok(order) => Ok(out.push_str(order_name(order))?),
-        Err(fault) => Ok(push_number(out, Err(fault))?),
+fn push_comparison(row: Row<'_>, out: &mut Line) -> Result<(), AllocError> {
+    let left = inside(row.alloc, row.field(1))?;
+    let right = inside(row.alloc, row.field(2))?;
+    push_order(out, &scalar_in(row, 1, &left), &scalar_in(row, 2, &right));
+    Ok(())
+}
+
+fn push_order(out: &mut Line, a: &Scalar<'_>, b: &Scalar<'_>) {
+    match compare(a, b) {
+        Ok(order) => out.push_str(order_name(order)),
+        Err(fault) => push_number(out, Err(fault)),
     }
 }
 
@@ -77,41 +89,39 @@ pub fn order_name(order: Ordering) -> &'static str {
     }
 }
 
-// Spends what each step says of the ticks of the first field, and tells what is left.
-fn spend(arguments: Arguments<'_>, out: &mut String) -> Result<(), Stop> {
-    let mut ticks = Ticks {
-        left: u64::from(number_in(arguments.field(0))?),
-    };
-    for step in arguments.steps() {
-        match ticks.spend(u64::from(number_in(step)?)) {
-            Ok(()) => write!(out, " {} left", ticks.left)?,
-            Err(Spent) => write!(out, " Spent {} left", ticks.left)?,
-        }
+fn push_left(out: &mut Line, spent: Result<(), Spent>, left: u64) {
+    if spent.is_err() {
+        out.push_word("Spent");
     }
-    Ok(())
+    out.tell(" ", left, " left");
+}
+
+// Spends what each step says of the ticks of the first field, and tells what is left.
+fn push_spent(row: Row<'_>, out: &mut Line) {
+    let mut ticks = Ticks {
+        left: u64::from(row.number(1)),
+    };
+    for step in row.fields_from(2) {
+        let spent = ticks.spend(u64::from(row.number_in(step)));
+        push_left(out, spent, ticks.left);
+    }
 }
 
 // The names of faults and classes, and of what a fault turns into.
-fn names(field: &str, out: &mut String) -> Result<(), Stop> {
+fn name(field: &str) -> &'static str {
     match field {
-        "ScriptFault::ObjectComparison" => write!(
-            out,
-            " {}",
-            ScriptFault::ObjectComparison.name()
-        )?,
-        "format ScriptFault::BadSession" => write!(
-            out,
-            " Script fault {}",
-            ScriptFault::BadSession
-        )?,
-        "ErrorKind::DivisionByZero" => write!(out, " {}", ErrorKind::DivisionByZero.class_name())?,
-        "CallStop::from(Spent)" => return Err(Stop::from(CallStop::from(Spent))),
-        "ScriptFault::from(NumFault::Not)" => write!(
-            out,
-            " {}",
-            ScriptFault::from(NumFault::Not).name()
-        )?,
-        _ => return Err(Stop::Unreadable),
+        "ScriptFault::ObjectComparison" => ScriptFault::ObjectComparison.name(),
+        "ErrorKind::DivisionByZero" => ErrorKind::DivisionByZero.class_name(),
+        "ScriptFault::from(NumFault::Not)" => ScriptFault::from(NumFault::Not).name(),
+        "CallStop::from(Spent)" => stop_name(CallStop::from(Spent)),
+        _ => "Unreadable",
     }
-    Ok(())
+}
+
+fn push_named(field: &str, out: &mut Line) {
+    if field == "format ScriptFault::BadSession" {
+        write!(out, " Script fault {}", ScriptFault::BadSession);
+    } else {
+        out.push_word(name(field));
+    }
 }

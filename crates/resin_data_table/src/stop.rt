@@ -1,57 +1,51 @@
-//! Why a row has no answer.
+//! Why a call has no answer.
 
 use resin_ops::under::lstr::TextFault;
 use resin_ops::under::scalar::CallStop;
 use resin_ops::under::value::ArrFault;
-use std::alloc::AllocError;
+use resin_table_rows::Line;
 
-/// Why a call gives no answer.
-#[derive(Clone, Copy)]
-pub enum Stop {
-    /// The row is off the form that the program reads.
-    Unreadable,
-    Text(TextFault),
-    Array(ArrFault),
-    Call(CallStop),
-}
-
-impl Stop {
-    /// The name that is printed.
-    pub fn name(self) -> &'static str {
-        match self {
-            Stop::Unreadable => "Unreadable",
-            Stop::Text(TextFault::TooLong) => "TooLong",
-            Stop::Array(ArrFault::NoNextKey) => "NoNextKey",
-            Stop::Array(ArrFault::TooHigh) => "TooHigh",
-            Stop::Call(CallStop::Fault(fault)) => fault.name(),
-            Stop::Call(CallStop::Throw(kind)) => kind.class_name(),
-            Stop::Text(TextFault::Memory)
-            | Stop::Array(ArrFault::Memory)
-            | Stop::Call(CallStop::Memory) => "Memory",
-        }
+fn text_fault(fault: TextFault) -> &'static str {
+    match fault {
+        TextFault::TooLong => "TooLong",
+        TextFault::Memory => "Memory",
     }
 }
 
-impl From<AllocError> for Stop {
-    fn from(_error: AllocError) -> Stop {
-        Stop::Call(CallStop::Memory)
+fn array_fault(fault: ArrFault) -> &'static str {
+    match fault {
+        ArrFault::NoNextKey => "NoNextKey",
+        ArrFault::TooHigh => "TooHigh",
+        ArrFault::Memory => "Memory",
     }
 }
 
-impl From<TextFault> for Stop {
-    fn from(fault: TextFault) -> Stop {
-        Stop::Text(fault)
+/// The name of what stops a call.
+pub fn stop_name(stop: CallStop) -> &'static str {
+    match stop {
+        CallStop::Fault(fault) => fault.name(),
+        CallStop::Throw(kind) => kind.class_name(),
+        CallStop::Memory => "Memory",
     }
 }
 
-impl From<ArrFault> for Stop {
-    fn from(fault: ArrFault) -> Stop {
-        Stop::Array(fault)
+/// Puts last why there is no text, where there is none.
+pub fn push_text_fault(out: &mut Line, done: Result<(), TextFault>) {
+    if let Err(fault) = done {
+        out.push_word(text_fault(fault));
     }
 }
 
-impl From<CallStop> for Stop {
-    fn from(stop: CallStop) -> Stop {
-        Stop::Call(stop)
+/// Puts last why an array isn't changed, where it isn't.
+pub fn push_array_fault(out: &mut Line, done: Result<(), ArrFault>) {
+    if let Err(fault) = done {
+        out.push_word(array_fault(fault));
+    }
+}
+
+/// Puts last why a call has no answer, where it has none.
+pub fn push_stop(out: &mut Line, done: Result<(), CallStop>) {
+    if let Err(stop) = done {
+        out.push_word(stop_name(stop));
     }
 }

@@ -1,204 +1,232 @@
 //! Keepers of files.
-use crate::text::{cut, push_bytes, unescaped};
+use crate::streams::numbers;
+use crate::text::push_bytes;
 use resin_base::{Calls, Entry, FailList, Files, KeepFault};
 use resin_memory::{CalmFiles, FakeFiles};
+use resin_table_rows::{Line, bytes_in, cut};
 use std::alloc::{AllocError, Global};
 
-/// Adds the name of a fault.
-pub fn push_fault(out: &mut String, fault: KeepFault) -> Result<(), AllocError> {
+fn fault_name(fault: KeepFault) -> &'static str {
     match fault {
-        KeepFault::Failed => out.push_str("failed"),
-        KeepFault::Memory => out.push_str("memory"),
+        KeepFault::Failed => "failed",
+        KeepFault::Memory => "memory",
+    }
+}
+
+/// Adds the name of a fault.
+pub fn push_fault(out: &mut Line, fault: KeepFault) {
+    out.push_str(fault_name(fault));
+}
+
+fn whether_name(answer: Result<bool, KeepFault>) -> &'static str {
+    match answer {
+        Ok(true) => "true",
+        Ok(false) => "false",
+        Err(fault) => fault_name(fault),
     }
 }
 
 /// Adds `true`, `false` or a fault.
-pub fn push_whether(out: &mut String, answer: Result<bool, KeepFault>) -> Result<(), AllocError> {
-    match answer {
-        Ok(true) => out.push_str("true"),
-        Ok(false) => out.push_str("false"),
-        Err(fault) => push_fault(out, fault),
-    }
+pub fn push_whether(out: &mut Line, answer: Result<bool, KeepFault>) {
+    out.push_str(whether_name(answer));
 }
 
 /// Adds how many calls were made, and how many of them are listed as failed.
-pub fn push_calls(out: &mut String, calls: &Calls) -> Result<(), AllocError> {
-    let made = calls.made;
-    let failed = calls.failed.as_slice().len();
-    write!(out, "{made} made, {failed} failed")
+pub fn push_calls(out: &mut Line, calls: &Calls) {
+    out.tell("", calls.made, " made, ");
+    out.tell("", calls.failed.as_slice().len() as u64, " failed");
 }
 
 // Adds an entry's bytes and its shadow text.
-fn push_entry(out: &mut String, bytes: &[u8], shadow: &[u8]) -> Result<(), AllocError> {
-    out.push('\'')?;
-    push_bytes(out, bytes)?;
-    out.push_str("' '")?;
-    push_bytes(out, shadow)?;
-    out.push('\'')
+fn push_entry(out: &mut Line, bytes: &[u8], shadow: &[u8]) {
+    out.push('\'');
+    push_bytes(out, bytes);
+    out.push_str("' '");
+    push_bytes(out, shadow);
+    out.push('\'');
 }
 
-fn push_read(out: &mut String, answer: Result<Option<Entry>, KeepFault>) -> Result<(), AllocError> {
+fn push_found(out: &mut Line, found: &Option<Entry>) {
+    match found {
+        Some(entry) => push_entry(out, entry.bytes.as_slice(), entry.shadow.as_slice()),
+        None => out.push_str("none"),
+    }
+}
+
+fn push_read(out: &mut Line, answer: Result<Option<Entry>, KeepFault>) {
     match answer {
-        Ok(Some(entry)) => push_entry(out, entry.bytes.as_slice(), entry.shadow.as_slice()),
-        Ok(None) => out.push_str("none"),
+        Ok(found) => push_found(out, &found),
         Err(fault) => push_fault(out, fault),
     }
 }
 
-fn push_got(out: &mut String, got: Option<(&[u8], &[u8])>) -> Result<(), AllocError> {
+fn push_got(out: &mut Line, got: Option<(&[u8], &[u8])>) {
     match got {
         Some((bytes, shadow)) => push_entry(out, bytes, shadow),
         None => out.push_str("none"),
     }
 }
 
-// The bytes and the shadow text that a step has behind the path.
-fn contents(alloc: Global, rest: &str) -> Result<(Vec<u8>, Vec<u8>), AllocError> {
-    let (bytes, shadow) = cut(rest, ' ');
-    Ok((unescaped(alloc, bytes)?, unescaped(alloc, shadow)?))
-}
-
-fn push_written(out: &mut String, answer: Result<(), KeepFault>) -> Result<(), AllocError> {
+fn push_written(out: &mut Line, answer: Result<(), KeepFault>) {
     match answer {
         Ok(()) => out.push_str("written"),
         Err(fault) => push_fault(out, fault),
     }
 }
 
-// Makes the call of a step, and adds what it answers.
-fn push_plain<F: Files>(
-    alloc: Global,
-    out: &mut String,
-    files: &mut F,
-    step: &str,
-) -> Result<(), AllocError> {
-    let (name, operands) = cut(step, ' ');
-    let (path, rest) = cut(operands, ' ');
-    let path = unescaped(alloc, path)?;
+// What a call is given: a path, and the bytes and the shadow text that a step has behind it.
+struct Operands {
+    path: Vec<u8>,
+    bytes: Vec<u8>,
+    shadow: Vec<u8>,
+}
+
+impl Drop for Operands {
+    fn drop(self) {
+        let Operands {
+            path: _,
+            bytes: _,
+            shadow: _,
+        } = self;
+    }
+}
+
+fn operands_of(alloc: Global, words: &str) -> Result<Operands, AllocError> {
+    let (path, rest) = cut(words, ' ');
+    let (bytes, shadow) = cut(rest, ' ');
+    let path = bytes_in(alloc, path)?;
+    let bytes = bytes_in(alloc, bytes)?;
+    let shadow = bytes_in(alloc, shadow)?;
+    Ok(Operands {
+        path,
+        bytes,
+        shadow,
+    })
+}
+
+// Makes a call, and adds what it answers.
+fn push_call<F: Files>(out: &mut Line, files: &mut F, name: &str, given: &Operands) {
     match name {
-        "read" => push_read(out, files.read(&path)),
-        "exists" => push_whether(out, files.exists(&path)),
-        "remove" => push_whether(out, files.remove(&path)),
-        "write" => {
-            let (bytes, shadow) = contents(alloc, rest)?;
-            push_written(out, files.write(&path, &bytes, &shadow))
-        }
+        "read" => push_read(out, files.read(&given.path)),
+        "exists" => push_whether(out, files.exists(&given.path)),
+        "remove" => push_whether(out, files.remove(&given.path)),
+        "write" => push_written(out, files.write(&given.path, &given.bytes, &given.shadow)),
         _ => out.push('?'),
     }
 }
 
-// Makes the call of a step as the first of a run, and adds how many are counted then, and how many are listed.
+// Makes a call as the first of a run, and adds how many are counted then, and how many are listed.
 fn push_numbered<F: Files>(
     alloc: Global,
-    out: &mut String,
+    out: &mut Line,
     files: &mut F,
-    step: &str,
-) -> Result<(), AllocError> {
-    let (name, operands) = cut(step, ' ');
-    let (path, rest) = cut(operands, ' ');
-    let path = unescaped(alloc, path)?;
-    let (bytes, shadow) = contents(alloc, rest)?;
+    name: &str,
+    given: &Operands,
+) {
     let mut calls = Calls {
         made: 0,
         failed: FailList::new(alloc),
     };
     match name {
-        "read" => drop(calls.read_file(files, &path)),
-        "exists" => drop(calls.file_exists(files, &path)),
-        "remove" => drop(calls.remove_file(files, &path)),
-        "write" => drop(calls.write_file(files, &path, &bytes, &shadow)),
-        _ => {}
+        "read" => drop(calls.read_file(files, &given.path)),
+        "exists" => drop(calls.file_exists(files, &given.path)),
+        "remove" => drop(calls.remove_file(files, &given.path)),
+        _ => drop(calls.write_file(files, &given.path, &given.bytes, &given.shadow)),
     }
-    push_calls(out, &calls)
+    push_calls(out, &calls);
 }
 
-// Makes the call of a step, which is the first of a run where `numbered` stands before it.
+// Takes a step: a call, which is the first of a run where `numbered` stands before it.
 fn push_step<F: Files>(
     alloc: Global,
-    out: &mut String,
+    out: &mut Line,
     files: &mut F,
     step: &str,
 ) -> Result<(), AllocError> {
-    match step.strip_prefix("numbered ") {
-        Some(rest) => push_numbered(alloc, out, files, rest),
-        None => push_plain(alloc, out, files, step),
+    let (name, words) = cut(step, ' ');
+    if name == "numbered" {
+        let (name, words) = cut(words, ' ');
+        push_numbered(alloc, out, files, name, &operands_of(alloc, words)?);
+    } else {
+        push_call(out, files, name, &operands_of(alloc, words)?);
     }
+    Ok(())
 }
 
 /// Takes the steps of any keeper of files.
-pub fn push_steps<F: Files>(
-    alloc: Global,
-    out: &mut String,
-    files: &mut F,
-    steps: &str,
-) -> Result<(), AllocError> {
+pub fn push_steps<F: Files>(alloc: Global, out: &mut Line, files: &mut F, steps: &str) {
     for step in steps.split('|') {
-        push_step(alloc, out, files, step)?;
-        out.push_str("; ")?;
+        let done = push_step(alloc, out, files, step);
+        out.note(done);
+        out.push_str("; ");
     }
-    Ok(())
+}
+
+// What a step puts into files in memory: a path, bytes and a shadow text.
+fn parts(words: &str) -> (&[u8], &[u8], &[u8]) {
+    let (path, rest) = cut(words, ' ');
+    let (bytes, shadow) = cut(rest, ' ');
+    (path.as_bytes(), bytes.as_bytes(), shadow.as_bytes())
+}
+
+/// Adds `put`, where that took no memory that was wanting.
+pub fn push_put(out: &mut Line, done: Result<(), AllocError>) {
+    out.note(done);
+    out.push_str("put");
 }
 
 // Takes a step of files in memory, of which `get` and `put` are no calls.
 fn push_calm_step(
     alloc: Global,
-    out: &mut String,
+    out: &mut Line,
     files: &mut CalmFiles,
     step: &str,
 ) -> Result<(), AllocError> {
-    let (name, operands) = cut(step, ' ');
-    let (path, rest) = cut(operands, ' ');
+    let (name, words) = cut(step, ' ');
+    let (path, bytes, shadow) = parts(words);
     match name {
-        "get" => push_got(out, files.get(path.as_bytes())),
-        "put" => {
-            let (bytes, shadow) = cut(rest, ' ');
-            files.put(path.as_bytes(), bytes.as_bytes(), shadow.as_bytes())?;
-            out.push_str("put")
-        }
-        _ => push_step(alloc, out, files, step),
+        "get" => push_got(out, files.get(path)),
+        "put" => push_put(out, files.put(path, bytes, shadow)),
+        _ => return push_step(alloc, out, files, step),
     }
+    Ok(())
 }
 
 /// Files in memory that never fail.
-pub fn push_calm(alloc: Global, out: &mut String, steps: &str) -> Result<(), AllocError> {
+pub fn push_calm(alloc: Global, out: &mut Line, steps: &str) -> Result<(), AllocError> {
     let mut files = CalmFiles::new(alloc);
     for step in steps.split('|') {
-        push_calm_step(alloc, out, &mut files, step)?;
-        out.push_str("; ")?;
+        let done = push_calm_step(alloc, out, &mut files, step);
+        out.note(done);
+        out.push_str("; ");
     }
     Ok(())
 }
 
 fn push_fake_step(
     alloc: Global,
-    out: &mut String,
+    out: &mut Line,
     files: &mut FakeFiles,
     step: &str,
 ) -> Result<(), AllocError> {
-    let (name, operands) = cut(step, ' ');
-    let (path, rest) = cut(operands, ' ');
+    let (name, words) = cut(step, ' ');
+    let (path, bytes, shadow) = parts(words);
     match name {
-        "get" => push_got(out, files.get(path.as_bytes())),
-        "put" => {
-            let (bytes, shadow) = cut(rest, ' ');
-            files.put(path.as_bytes(), bytes.as_bytes(), shadow.as_bytes())?;
-            out.push_str("put")
-        }
-        _ => push_step(alloc, out, files, step),
+        "get" => push_got(out, files.get(path)),
+        "put" => push_put(out, files.put(path, bytes, shadow)),
+        _ => return push_step(alloc, out, files, step),
     }
+    Ok(())
 }
 
 /// Files in memory of which the listed calls fail.
-pub fn push_fake(
-    alloc: Global,
-    out: &mut String,
-    fail: FailList,
-    steps: &str,
-) -> Result<(), AllocError> {
+pub fn push_fake(alloc: Global, out: &mut Line, fail: &str, steps: &str) -> Result<(), AllocError> {
+    let fail = numbers(alloc, fail)?;
     let mut files = FakeFiles::new(alloc, fail);
     for step in steps.split('|') {
-        push_fake_step(alloc, out, &mut files, step)?;
-        out.push_str("; ")?;
+        let done = push_fake_step(alloc, out, &mut files, step);
+        out.note(done);
+        out.push_str("; ");
     }
     Ok(())
 }

@@ -37,23 +37,28 @@ mod tables;
 mod text;
 mod traces;
 
-use crate::text::cut;
 use resin_base::{Bytes, Cell, Names, Stored, StoredCell, StoredRows};
 use resin_edge::Folder;
+use resin_table_rows::{Line, cut};
 use std::alloc::{AllocError, Global};
 use std::{fs, io};
 
 // A folder of the system as a keeper of files. It is removed when the steps are taken.
-fn push_folder(rt: &HostRuntime, out: &mut String, root: &str, steps: &str) -> io::Result<()> {
+fn push_folder(rt: &HostRuntime, out: &mut Line, root: &str, steps: &str) -> io::Result<()> {
     let mut folder = Folder::new(rt.alloc(), rt.clone()?, root)?;
-    files::push_steps(rt.alloc(), out, &mut folder, steps)?;
+    files::push_steps(rt.alloc(), out, &mut folder, steps);
     fs::remove_dir_all(rt, root)
 }
 
-// The lists of what keepers hold, with one item each.
-fn push_lists(alloc: Global, out: &mut String) -> Result<(), AllocError> {
+// A list of one name.
+fn names(alloc: Global) -> Result<Names, AllocError> {
     let mut names = Names::new(alloc);
     names.push(Bytes::from_slice(alloc, b"n")?)?;
+    Ok(names)
+}
+
+// A list of one row of one cell.
+fn stored_rows(alloc: Global) -> Result<StoredRows, AllocError> {
     let mut stored = Stored::new(alloc);
     stored.push(StoredCell {
         value: Cell::Int(7),
@@ -61,106 +66,144 @@ fn push_lists(alloc: Global, out: &mut String) -> Result<(), AllocError> {
     })?;
     let mut rows = StoredRows::new(alloc);
     rows.push(stored)?;
-    let (names, rows) = (names.as_slice().len(), rows.as_slice().len());
-    write!(out, "names {names}; rows {rows}")
+    Ok(rows)
 }
 
-// Takes a row of keepers, sources and sinks. False where it is none.
-fn push_outside(
+// The lists of what keepers hold, with one item each.
+fn push_lists(alloc: Global, out: &mut Line) -> Result<(), AllocError> {
+    let names = names(alloc)?;
+    let rows = stored_rows(alloc)?;
+    out.tell("names ", names.as_slice().len() as u64, "; ");
+    out.tell("rows ", rows.as_slice().len() as u64, "");
+    Ok(())
+}
+
+// What a row asks for: its kind, the words behind that, and the other fields as they are written.
+#[derive(Clone, Copy)]
+struct Asked<'a> {
     alloc: Global,
-    out: &mut String,
-    kind: &str,
-    words: &str,
-    fields: &str,
-) -> Result<bool, AllocError> {
-    match kind {
-        "lists" => push_lists(alloc, out)?,
-        "calm_files" => files::push_calm(alloc, out, fields)?,
-        "fake_files" => files::push_fake(alloc, out, streams::numbers(alloc, words)?, fields)?,
-        "calm_tables" => tables::push_calm(alloc, out, fields)?,
-        "fake_tables" => tables::push_fake(alloc, out, streams::numbers(alloc, words)?, fields)?,
-        "calm_source" => streams::push_calm_source(alloc, out, fields)?,
-        "fake_source" => streams::push_fake_source(alloc, out, words, fields)?,
-        "std_source" => streams::push_std_source(alloc, out, fields)?,
-        "calm_sink" => streams::push_calm_sink(alloc, out, fields)?,
-        "fake_sink" => streams::push_fake_sink(alloc, out, words, fields)?,
-        "std_sink" => streams::push_std_sink(alloc, out, words, fields)?,
-        _ => return Ok(false),
-    }
-    Ok(true)
+    kind: &'a str,
+    words: &'a str,
+    fields: &'a str,
+}
+
+// Takes a row of keepers. False where it is none.
+fn push_kept(out: &mut Line, asked: &Asked<'_>) -> bool {
+    let alloc = asked.alloc;
+    let done = match asked.kind {
+        "lists" => push_lists(alloc, out),
+        "calm_files" => files::push_calm(alloc, out, asked.fields),
+        "fake_files" => files::push_fake(alloc, out, asked.words, asked.fields),
+        "calm_tables" => tables::push_calm(alloc, out, asked.fields),
+        "fake_tables" => tables::push_fake(alloc, out, asked.words, asked.fields),
+        _ => return false,
+    };
+    out.note(done);
+    true
+}
+
+// Takes a row of sources and sinks. False where it is none.
+fn push_passed(out: &mut Line, asked: &Asked<'_>) -> bool {
+    let alloc = asked.alloc;
+    let done = match asked.kind {
+        "calm_source" => streams::push_calm_source(alloc, out, asked.fields),
+        "fake_source" => streams::push_fake_source(alloc, out, asked.words, asked.fields),
+        "std_source" => streams::push_std_source(alloc, out, asked.fields),
+        "calm_sink" => streams::push_calm_sink(alloc, out, asked.fields),
+        "fake_sink" => streams::push_fake_sink(alloc, out, asked.words, asked.fields),
+        "std_sink" => streams::push_std_sink(alloc, out, asked.words, asked.fields),
+        _ => return false,
+    };
+    out.note(done);
+    true
 }
 
 // Takes a row of requests, responses and input arrays. False where it is none.
-fn push_asked(
-    alloc: Global,
-    out: &mut String,
-    kind: &str,
-    words: &str,
-    fields: &str,
-) -> Result<bool, AllocError> {
-    match kind {
-        "head" => requests::push_head(alloc, out, fields)?,
-        "mark" => requests::push_mark(alloc, out, fields)?,
-        "request" => requests::push_request(alloc, out, fields)?,
-        "inputs" => requests::push_inputs(alloc, out, fields)?,
-        "response" => requests::push_response(alloc, out, words == "to_head", fields)?,
-        "get" | "post" | "cookie" | "server" => arrays::push_named(alloc, out, kind, fields)?,
-        _ => return Ok(false),
-    }
-    Ok(true)
+fn push_asked(out: &mut Line, asked: &Asked<'_>) -> bool {
+    let (alloc, kind) = (asked.alloc, asked.kind);
+    let done = match kind {
+        "head" | "mark" | "request" | "inputs" => {
+            requests::push_named(alloc, out, kind, asked.fields)
+        }
+        "response" => {
+            requests::push_response(alloc, out, asked.words == "to_head", asked.fields)
+        }
+        "get" | "post" | "cookie" | "server" => {
+            arrays::push_named(alloc, out, kind, asked.fields)
+        }
+        _ => return false,
+    };
+    out.note(done);
+    true
 }
 
-// Takes a row of traces and connections. False where it is none.
-fn push_recorded(
-    alloc: Global,
-    out: &mut String,
-    kind: &str,
-    words: &str,
-    fields: &str,
-) -> Result<bool, AllocError> {
-    match kind {
-        "trace" => traces::push_whole(alloc, out, fields)?,
-        "trace_singly" => traces::push_singly(alloc, out, fields)?,
-        "endless" => traces::push_endless(alloc, out, words, fields)?,
-        "late" => traces::push_late(alloc, out, words, fields)?,
-        "slow_piece" => traces::push_slow_piece(alloc, out, words)?,
-        "connections" => connections::push_steps(alloc, out, fields)?,
-        "long_stream" => connections::push_long_stream(alloc, out, words)?,
-        "drained" => connections::push_drained(alloc, out, words)?,
-        _ => return Ok(false),
-    }
-    Ok(true)
+// Takes a row of traces. False where it is none.
+fn push_recorded(out: &mut Line, asked: &Asked<'_>) -> bool {
+    let alloc = asked.alloc;
+    let done = match asked.kind {
+        "trace" => traces::push_whole(alloc, out, asked.fields),
+        "trace_singly" => traces::push_singly(alloc, out, asked.fields),
+        "endless" => traces::push_endless(alloc, out, asked.words, asked.fields),
+        "late" => traces::push_late(alloc, out, asked.words, asked.fields),
+        "slow_piece" => traces::push_slow_piece(alloc, out, asked.words),
+        _ => return false,
+    };
+    out.note(done);
+    true
 }
 
-// Takes a row of one of the kinds. False where it is none.
-fn push_row(
-    alloc: Global,
-    out: &mut String,
-    kind: &str,
-    words: &str,
-    fields: &str,
-) -> Result<bool, AllocError> {
-    Ok(
-        push_outside(alloc, out, kind, words, fields)?
-            || push_asked(alloc, out, kind, words, fields)?
-            || push_recorded(alloc, out, kind, words, fields)?,
-    )
+// Takes a row of connections. False where it is none.
+fn push_connected(out: &mut Line, asked: &Asked<'_>) -> bool {
+    let alloc = asked.alloc;
+    let done = match asked.kind {
+        "connections" => connections::push_steps(alloc, out, asked.fields),
+        "long_stream" => connections::push_long_stream(alloc, out, asked.words),
+        "drained" => connections::push_drained(alloc, out, asked.words),
+        _ => return false,
+    };
+    out.note(done);
+    true
+}
+
+// Takes a row of one of the kinds.
+fn push_row(out: &mut Line, asked: &Asked<'_>) {
+    let is_known = push_kept(out, asked)
+        || push_passed(out, asked)
+        || push_asked(out, asked)
+        || push_recorded(out, asked)
+        || push_connected(out, asked);
+    if !is_known {
+        out.push('?');
+    }
+}
+
+// Puts the answer of a row into its line.
+fn push_answer(rt: &HostRuntime, out: &mut Line, line: &str) -> io::Result<()> {
+    let (front, fields) = cut(line, '|');
+    let (kind, words) = cut(front, ' ');
+    if kind == "folder" {
+        return push_folder(rt, out, words, fields);
+    }
+    push_row(
+        out,
+        &Asked {
+            alloc: rt.alloc(),
+            kind,
+            words,
+            fields,
+        },
+    );
+    Ok(())
 }
 
 fn answer(rt: &HostRuntime, line: &str) -> io::Result<String> {
-    let alloc = rt.alloc();
+    let mut out = Line::new(rt.alloc());
     if line.starts_with('#') {
-        return Ok(String::from_str(alloc, line)?);
+        out.push_str(line);
+    } else {
+        push_answer(rt, &mut out, line)?;
     }
-    let (front, fields) = cut(line, '|');
-    let (kind, words) = cut(front, ' ');
-    let mut out = String::new(alloc);
-    if kind == "folder" {
-        push_folder(rt, &mut out, words, fields)?;
-    } else if !push_row(alloc, &mut out, kind, words, fields)? {
-        out.push('?')?;
-    }
-    Ok(out)
+    Ok(out.end()?)
 }
 
 fn main(rt: HostRuntime) -> io::Result<()> {

@@ -1,9 +1,10 @@
 //! Sources and sinks.
 use crate::files::push_fault;
-use crate::text::{cut, number, push_bytes};
-use resin_base::{Bytes, FailList, Sink, Source};
+use crate::text::{number, push_bytes};
+use resin_base::{Bytes, FailList, KeepFault, Sink, Source};
 use resin_edge::{StdSink, StdSource};
 use resin_memory::{CalmSink, CalmSource, FakeSink, FakeSource};
+use resin_table_rows::{Line, cut};
 use std::alloc::{AllocError, Global};
 
 /// The numbers that are written in words.
@@ -18,16 +19,12 @@ pub fn numbers(alloc: Global, words: &str) -> Result<FailList, AllocError> {
 }
 
 // Takes bytes into a buffer, and adds how many.
-fn push_take<S: Source>(
-    out: &mut String,
-    source: &mut S,
-    buffer: &mut [u8],
-) -> Result<(), AllocError> {
+fn push_take<S: Source>(out: &mut Line, source: &mut S, buffer: &mut [u8]) {
     if buffer.is_empty() {
-        return Ok(());
+        return;
     }
     match source.take(buffer) {
-        Ok(count) => write!(out, "{count}"),
+        Ok(count) => out.push_natural(count as u64),
         Err(_) => out.push_str("failed"),
     }
 }
@@ -35,7 +32,7 @@ fn push_take<S: Source>(
 // Takes the steps of a source: the length of a buffer, and then `take`, and `buffer`, which adds what the buffer holds.
 fn push_takes<S: Source>(
     alloc: Global,
-    out: &mut String,
+    out: &mut Line,
     source: &mut S,
     fields: &str,
 ) -> Result<(), AllocError> {
@@ -43,17 +40,17 @@ fn push_takes<S: Source>(
     let mut buffer = vec![in alloc; 0u8; number(length)]?;
     for step in steps.split('|') {
         if step == "take" {
-            push_take(out, source, &mut buffer)?;
+            push_take(out, source, &mut buffer);
         } else {
-            push_bytes(out, &buffer)?;
+            push_bytes(out, &buffer);
         }
-        out.push_str("; ")?;
+        out.push_str("; ");
     }
     Ok(())
 }
 
 /// A source in memory that never fails: its bytes, and the steps.
-pub fn push_calm_source(alloc: Global, out: &mut String, fields: &str) -> Result<(), AllocError> {
+pub fn push_calm_source(alloc: Global, out: &mut Line, fields: &str) -> Result<(), AllocError> {
     let (text, steps) = cut(fields, '|');
     let mut source = CalmSource::new(Bytes::from_slice(alloc, text.as_bytes())?);
     push_takes(alloc, out, &mut source, steps)
@@ -62,7 +59,7 @@ pub fn push_calm_source(alloc: Global, out: &mut String, fields: &str) -> Result
 /// A source in memory that gives so many bytes at most, and of which the calls that the other words list fail.
 pub fn push_fake_source(
     alloc: Global,
-    out: &mut String,
+    out: &mut Line,
     words: &str,
     fields: &str,
 ) -> Result<(), AllocError> {
@@ -74,64 +71,63 @@ pub fn push_fake_source(
 }
 
 /// A reader of the system as a source.
-pub fn push_std_source(alloc: Global, out: &mut String, fields: &str) -> Result<(), AllocError> {
+pub fn push_std_source(alloc: Global, out: &mut Line, fields: &str) -> Result<(), AllocError> {
     let (text, steps) = cut(fields, '|');
     let mut source = StdSource::new(text.as_bytes());
     push_takes(alloc, out, &mut source, steps)
 }
 
-// Gives a piece, and adds how many bytes of it were taken.
-fn push_give<S: Sink>(out: &mut String, sink: &mut S, piece: &[u8]) -> Result<(), AllocError> {
-    if piece.is_empty() {
-        return Ok(());
+fn push_given(out: &mut Line, given: Result<usize, KeepFault>) {
+    match given {
+        Ok(count) => out.push_natural(count as u64),
+        Err(fault) => push_fault(out, fault),
     }
-    match sink.give(piece) {
-        Ok(count) => write!(out, "{count}; "),
-        Err(fault) => {
-            push_fault(out, fault)?;
-            out.push_str("; ")
+    out.push_str("; ");
+}
+
+// Gives pieces, and adds how many bytes of each were taken.
+fn push_gives<S: Sink>(out: &mut Line, sink: &mut S, pieces: &str) {
+    for piece in pieces.split('|') {
+        if !piece.is_empty() {
+            push_given(out, sink.give(piece.as_bytes()));
         }
     }
 }
 
-fn push_gives<S: Sink>(out: &mut String, sink: &mut S, pieces: &str) -> Result<(), AllocError> {
-    for piece in pieces.split('|') {
-        push_give(out, sink, piece.as_bytes())?;
-    }
-    Ok(())
-}
-
 /// A sink in memory that never fails: the pieces. What it holds is added last.
-pub fn push_calm_sink(alloc: Global, out: &mut String, pieces: &str) -> Result<(), AllocError> {
+pub fn push_calm_sink(alloc: Global, out: &mut Line, pieces: &str) -> Result<(), AllocError> {
     let mut sink = CalmSink::new(alloc);
-    push_gives(out, &mut sink, pieces)?;
-    push_bytes(out, sink.written())
+    push_gives(out, &mut sink, pieces);
+    push_bytes(out, sink.written());
+    Ok(())
 }
 
 /// A sink in memory that takes so many bytes at most, and of which the calls that the other words list fail.
 pub fn push_fake_sink(
     alloc: Global,
-    out: &mut String,
+    out: &mut Line,
     words: &str,
     pieces: &str,
 ) -> Result<(), AllocError> {
     let (chunk, fail) = cut(words, ' ');
     let mut sink = FakeSink::new(alloc, number(chunk), numbers(alloc, fail)?);
-    push_gives(out, &mut sink, pieces)?;
-    push_bytes(out, sink.written())
+    push_gives(out, &mut sink, pieces);
+    push_bytes(out, sink.written());
+    Ok(())
 }
 
 /// A writer of the system as a sink: so many bytes of memory.
 pub fn push_std_sink(
     alloc: Global,
-    out: &mut String,
+    out: &mut Line,
     words: &str,
     pieces: &str,
 ) -> Result<(), AllocError> {
     let mut room = vec![in alloc; 0u8; number(words)]?;
     {
         let mut sink = StdSink::new(room.as_mut_slice());
-        push_gives(out, &mut sink, pieces)?;
+        push_gives(out, &mut sink, pieces);
     }
-    push_bytes(out, &room)
+    push_bytes(out, &room);
+    Ok(())
 }

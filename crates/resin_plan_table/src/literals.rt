@@ -15,24 +15,45 @@ struct Values<'a> {
 }
 
 impl<'a> Values<'a> {
-    fn shadow(&self) -> Result<Cell, AllocError> {
-        let count = self.count;
-        let text = format!(in self.alloc; "s{count}")?;
-        Ok(Cell::Text(Bytes::from_slice(self.alloc, text.as_bytes())?))
+    fn text_cell(&self, bytes: &[u8]) -> Result<Cell, AllocError> {
+        Ok(Cell::Text(Bytes::from_slice(self.alloc, bytes)?))
+    }
+
+    // What a literal stands for.
+    fn value(&self, literal: Literal) -> Result<Cell, AllocError> {
+        match literal {
+            Literal::Null => Ok(Cell::Null),
+            Literal::Integer(n, _) => Ok(Cell::Int(n)),
+            Literal::Text(_) => {
+                let text = literal_text(self.alloc, self.text, literal)?;
+                self.text_cell(text.bytes())
+            }
+        }
+    }
+
+    // The shadow of the next literal.
+    fn shadow(&self, literal: Literal) -> Result<Cell, AllocError> {
+        match literal {
+            Literal::Null => Ok(Cell::Text(Bytes::new(self.alloc))),
+            _ => {
+                let text = format!(in self.alloc; "s{}", self.count)?;
+                self.text_cell(text.as_bytes())
+            }
+        }
     }
 
     fn push(&mut self, literal: Literal) -> Result<(), AllocError> {
         self.count = self.count.saturating_add(1);
-        let (value, shadow) = match literal {
-            Literal::Null => (Cell::Null, Cell::Text(Bytes::new(self.alloc))),
-            Literal::Integer(n, _) => (Cell::Int(n), self.shadow()?),
-            Literal::Text(_) => {
-                let text = literal_text(self.alloc, self.text, literal)?;
-                let bytes = Bytes::from_slice(self.alloc, text.bytes())?;
-                (Cell::Text(bytes), self.shadow()?)
-            }
-        };
+        let value = self.value(literal)?;
+        let shadow = self.shadow(literal)?;
         self.stored.push(StoredCell { value, shadow })
+    }
+
+    fn push_all(&mut self, literals: &[Literal]) -> Result<(), AllocError> {
+        for literal in literals {
+            self.push(*literal)?;
+        }
+        Ok(())
     }
 
     #[cycle(conditions)]
@@ -64,9 +85,7 @@ impl<'a> Values<'a> {
             Stmt::Create(_) => Ok(()),
             Stmt::Insert(insert) => {
                 for row in insert.rows.as_slice() {
-                    for literal in row.as_slice() {
-                        self.push(*literal)?;
-                    }
+                    self.push_all(row.as_slice())?;
                 }
                 Ok(())
             }

@@ -24,7 +24,8 @@ use resin_base::{Calls, FailList};
 use resin_label::PSet;
 use resin_lstr::{Builder, LText, TextFault};
 use resin_plan::exec;
-use resin_sql::{SqlFault, read_sql};
+use resin_sql::{SqlFault, Stmt, read_sql};
+use resin_table_rows::Line;
 use std::alloc::{AllocError, Global};
 use std::io;
 
@@ -38,74 +39,96 @@ fn plain(alloc: Global, text: &str) -> Result<LText, AllocError> {
     }
 }
 
-/// Carries out a statement, and adds what came of it.
+/// Adds what is told of a statement that was carried out: the keeper's calls, and their numbers.
+fn push_calls(out: &mut Line, log: Result<String, AllocError>, calls: &Calls) {
+    out.push_str(" =");
+    if let Some(log) = out.taken(log) {
+        out.push_str(log.as_str());
+    }
+    push_numbers(out, calls);
+}
+
+/// Carries out a statement that was read from a text, and adds what came of it.
+fn push_outcome(
+    out: &mut Line,
+    text: &LText,
+    statement: &Stmt,
+    shelf: &mut Shelf,
+    calls: &mut Calls,
+) -> Result<(), AllocError> {
+    let alloc = shelf.board.alloc;
+    let cells = stored(alloc, text, statement)?;
+    let answer = exec(alloc, statement, &cells, shelf, calls);
+    push_answer(out, &answer);
+    push_calls(out, shelf.board.take_log(), calls);
+    Ok(())
+}
+
+/// Reads a statement and carries it out, and adds what came of it.
 fn push_statement(
-    alloc: Global,
-    out: &mut String,
+    out: &mut Line,
     field: &str,
     shelf: &mut Shelf,
     calls: &mut Calls,
 ) -> Result<(), AllocError> {
-    let text = plain(alloc, field)?;
-    match read_sql(alloc, &text) {
-        Ok(statement) => {
-            let cells = stored(alloc, &text, &statement)?;
-            let answer = exec(alloc, &statement, &cells, shelf, calls);
-            push_answer(out, &answer)?;
-            out.push_str(" =")?;
-            out.push_str(shelf.board.log.as_str())?;
-            shelf.board.log.clear();
-            push_numbers(out, calls)
-        }
-        Err(SqlFault::Bad { offset }) => write!(out, "syntax at {offset}"),
-        Err(SqlFault::Memory) => Err(AllocError),
+    let text = plain(shelf.board.alloc, field)?;
+    match read_sql(shelf.board.alloc, &text) {
+        Ok(statement) => push_outcome(out, &text, &statement, shelf, calls)?,
+        Err(SqlFault::Bad { offset }) => out.tell("syntax at ", offset, ""),
+        Err(SqlFault::Memory) => return Err(AllocError),
     }
+    out.push_str(" | ");
+    Ok(())
+}
+
+/// Lists the calls that fail.
+fn push_fails(fail: &mut FailList, numbers: &str) -> Result<(), AllocError> {
+    for word in numbers.split(' ') {
+        fail.push(word.parse::<u64>().unwrap_or(0))?;
+    }
+    Ok(())
 }
 
 /// Takes a field, and adds what came of it if it is a statement.
 fn push_field(
-    alloc: Global,
-    out: &mut String,
+    out: &mut Line,
     field: &str,
     shelf: &mut Shelf,
     calls: &mut Calls,
 ) -> Result<(), AllocError> {
-    if let Some(numbers) = field.strip_prefix("fail ") {
-        for word in numbers.split(' ') {
-            shelf.board.fail.push(word.parse::<u64>().unwrap_or(0))?;
+    match field.split_once(' ') {
+        Some(("fail", numbers)) => push_fails(&mut shelf.board.fail, numbers),
+        Some(("made", number)) => {
+            calls.made = number.parse::<u64>().unwrap_or(0);
+            Ok(())
         }
-        return Ok(());
+        Some(("table", table)) => shelf.board.put_table(table),
+        Some(("row", row)) => shelf.board.put_row(row),
+        _ => push_statement(out, field, shelf, calls),
     }
-    if let Some(number) = field.strip_prefix("made ") {
-        calls.made = number.parse::<u64>().unwrap_or(0);
-        return Ok(());
-    }
-    if let Some(table) = field.strip_prefix("table ") {
-        return shelf.board.put_table(alloc, table);
-    }
-    if let Some(row) = field.strip_prefix("row ") {
-        return shelf.board.put_row(alloc, row);
-    }
-    push_statement(alloc, out, field, shelf, calls)?;
-    out.push_str(" | ")
 }
 
-fn run(alloc: Global, line: &str) -> Result<String, AllocError> {
-    let mut out = String::new(alloc);
-    if line.starts_with("# ") {
-        out.push_str(line)?;
-        return Ok(out);
-    }
+fn push_fields(alloc: Global, line: &str, out: &mut Line) {
     let mut shelf = Shelf::new(alloc);
     let mut calls = Calls {
         made: 0,
         failed: FailList::new(alloc),
     };
     for field in line.split('|') {
-        push_field(alloc, &mut out, field, &mut shelf, &mut calls)?;
+        let done = push_field(out, field, &mut shelf, &mut calls);
+        out.note(done);
     }
-    shelf.board.push_tables(&mut out)?;
-    Ok(out)
+    shelf.board.push_tables(out);
+}
+
+fn run(alloc: Global, line: &str) -> Result<String, AllocError> {
+    let mut out = Line::new(alloc);
+    if line.starts_with("# ") {
+        out.push_str(line);
+    } else {
+        push_fields(alloc, line, &mut out);
+    }
+    out.end()
 }
 
 fn main(rt: HostRuntime) -> io::Result<()> {

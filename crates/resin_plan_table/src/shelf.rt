@@ -7,7 +7,9 @@ use crate::show::{push_bytes, push_cell};
 use resin_base::{
     Bytes, Cell, Cells, Column, Columns, FailList, KeepFault, Kind, Row, Rows, Tables,
 };
+use resin_table_rows::{Line, cut};
 use std::alloc::{AllocError, Global};
+use std::mem;
 
 /// A table as it is held.
 #[derive(Drop)]
@@ -20,20 +22,24 @@ struct Held {
 /// Tables, of which listed calls fail.
 #[derive(Drop)]
 pub(crate) struct Board {
-    alloc: Global,
+    pub(crate) alloc: Global,
     tables: Vec<Held>,
     /// The numbers of the calls that fail, from 1.
     pub(crate) fail: FailList,
     made: u64,
-    /// The calls since it was last cleared.
-    pub(crate) log: String,
+    // The calls since they were last taken.
+    log: Line,
+}
+
+fn text_cell(alloc: Global, bytes: &[u8]) -> Result<Cell, AllocError> {
+    Ok(Cell::Text(Bytes::from_slice(alloc, bytes)?))
 }
 
 fn copied(alloc: Global, cell: &Cell) -> Result<Cell, AllocError> {
     match cell {
         Cell::Null => Ok(Cell::Null),
         Cell::Int(n) => Ok(Cell::Int(*n)),
-        Cell::Text(text) => Ok(Cell::Text(Bytes::from_slice(alloc, text.as_slice())?)),
+        Cell::Text(text) => text_cell(alloc, text.as_slice()),
     }
 }
 
@@ -45,35 +51,113 @@ fn copied_cells(alloc: Global, cells: &[Cell]) -> Result<Cells, AllocError> {
     Ok(copy)
 }
 
+fn copied_row(alloc: Global, row: &Row) -> Result<Row, AllocError> {
+    let cells = copied_cells(alloc, row.cells.as_slice())?;
+    Ok(Row {
+        number: row.number,
+        cells,
+    })
+}
+
+fn column(alloc: Global, name: &[u8], kind: Kind) -> Result<Column, AllocError> {
+    let name = Bytes::from_slice(alloc, name)?;
+    Ok(Column { name, kind })
+}
+
 fn copied_columns(alloc: Global, columns: &[Column]) -> Result<Columns, AllocError> {
     let mut copy = Columns::new(alloc);
-    for column in columns {
-        copy.push(Column {
-            name: Bytes::from_slice(alloc, column.name.as_slice())?,
-            kind: column.kind,
-        })?;
+    for one in columns {
+        copy.push(column(alloc, one.name.as_slice(), one.kind)?)?;
     }
     Ok(copy)
 }
 
-fn push_cells(out: &mut String, cells: &[Cell]) -> Result<(), AllocError> {
+fn push_cells(out: &mut Line, cells: &[Cell]) {
     for cell in cells {
-        out.push(' ')?;
-        push_cell(out, cell)?;
+        out.push(' ');
+        push_cell(out, cell);
     }
-    Ok(())
 }
 
-fn push_columns(out: &mut String, columns: &[Column]) -> Result<(), AllocError> {
-    for column in columns {
-        out.push(' ')?;
-        push_bytes(out, column.name.as_slice())?;
-        out.push_str(match column.kind {
-            Kind::Integer => ":I",
-            Kind::Text => ":T",
-        })?;
+fn kind_word(kind: Kind) -> &'static str {
+    match kind {
+        Kind::Integer => ":I",
+        Kind::Text => ":T",
     }
-    Ok(())
+}
+
+fn push_columns(out: &mut Line, columns: &[Column]) {
+    for column in columns {
+        out.push(' ');
+        push_bytes(out, column.name.as_slice());
+        out.push_str(kind_word(column.kind));
+    }
+}
+
+fn push_held_row(out: &mut Line, row: &Row) {
+    out.tell("; ", row.number, "");
+    push_cells(out, row.cells.as_slice());
+}
+
+fn push_held(out: &mut Line, table: &Held) {
+    out.push('{');
+    push_bytes(out, table.name.as_slice());
+    push_columns(out, table.columns.as_slice());
+    for row in table.rows.as_slice() {
+        push_held_row(out, row);
+    }
+    out.push('}');
+}
+
+fn kind_of(word: &str) -> Kind {
+    if word == "I" {
+        Kind::Integer
+    } else {
+        Kind::Text
+    }
+}
+
+/// Puts a column last that a word spells; another word is none.
+fn push_column(alloc: Global, columns: &mut Columns, word: &str) -> Result<(), AllocError> {
+    match word.split_once(':') {
+        Some((name, kind)) => columns.push(column(alloc, name.as_bytes(), kind_of(kind))?),
+        None => Ok(()),
+    }
+}
+
+fn columns_of(alloc: Global, words: &str) -> Result<Columns, AllocError> {
+    let mut columns = Columns::new(alloc);
+    for word in words.split(' ') {
+        push_column(alloc, &mut columns, word)?;
+    }
+    Ok(columns)
+}
+
+/// A table without rows.
+fn held(alloc: Global, name: &[u8], columns: Columns) -> Result<Held, AllocError> {
+    let name = Bytes::from_slice(alloc, name)?;
+    Ok(Held {
+        name,
+        columns,
+        rows: Vec::new(alloc),
+    })
+}
+
+/// The cells that words spell; one behind `#` is none.
+fn cells_of(alloc: Global, words: &str) -> Result<Cells, AllocError> {
+    let mut cells = Cells::new(alloc);
+    for word in words.split(' ') {
+        if !word.starts_with('#') {
+            cells.push(cell_of(alloc, word)?)?;
+        }
+    }
+    Ok(cells)
+}
+
+/// The number that words spell behind `#`.
+fn number_of(words: &str) -> Option<u64> {
+    let digits = words.split(' ').find_map(|word| word.strip_prefix('#'))?;
+    digits.parse::<u64>().ok()
 }
 
 /// A cell as a row of the input has it.
@@ -152,66 +236,38 @@ impl Board {
             tables: Vec::new(alloc),
             fail: FailList::new(alloc),
             made: 0,
-            log: String::new(alloc),
+            log: Line::new(alloc),
         }
     }
 
-    pub(crate) fn put_table(&mut self, alloc: Global, field: &str) -> Result<(), AllocError> {
-        let (name, words) = match field.split_once(' ') {
-            Some(parts) => parts,
-            None => (field, ""),
-        };
-        let mut columns = Columns::new(alloc);
-        for word in words.split(' ') {
-            if let Some((name, kind)) = word.split_once(':') {
-                columns.push(Column {
-                    name: Bytes::from_slice(alloc, name.as_bytes())?,
-                    kind: if kind == "I" {
-                        Kind::Integer
-                    } else {
-                        Kind::Text
-                    },
-                })?;
-            }
-        }
-        self.tables.push(Held {
-            name: Bytes::from_slice(alloc, name.as_bytes())?,
-            columns,
-            rows: Vec::new(alloc),
-        })?;
+    pub(crate) fn put_table(&mut self, field: &str) -> Result<(), AllocError> {
+        let (name, words) = cut(field, ' ');
+        let columns = columns_of(self.alloc, words)?;
+        self.tables
+            .push(held(self.alloc, name.as_bytes(), columns)?)?;
         Ok(())
     }
 
-    pub(crate) fn put_row(&mut self, alloc: Global, field: &str) -> Result<(), AllocError> {
-        let mut cells = Cells::new(alloc);
-        let mut number = None;
-        for word in field.split(' ') {
-            match word.strip_prefix('#') {
-                Some(digits) => number = digits.parse::<u64>().ok(),
-                None => cells.push(cell_of(alloc, word)?)?,
-            }
-        }
+    pub(crate) fn put_row(&mut self, field: &str) -> Result<(), AllocError> {
+        let cells = cells_of(self.alloc, field)?;
         if let Some(table) = self.tables.last_mut() {
-            let number = number.or(next_number(table.rows.as_slice())).unwrap_or(0);
+            let next = next_number(table.rows.as_slice());
+            let number = number_of(field).or(next).unwrap_or(0);
             table.rows.push(Row { number, cells })?;
         }
         Ok(())
     }
 
     /// Adds the tables with their rows.
-    pub(crate) fn push_tables(&self, out: &mut String) -> Result<(), AllocError> {
+    pub(crate) fn push_tables(&self, out: &mut Line) {
         for table in self.tables.as_slice() {
-            out.push_str("{")?;
-            push_bytes(out, table.name.as_slice())?;
-            push_columns(out, table.columns.as_slice())?;
-            for row in table.rows.as_slice() {
-                let number = row.number;
-                write!(out, "; {number}")?;
-                push_cells(out, row.cells.as_slice())?;
-            }
-            out.push_str("}")?;
+            push_held(out, table);
         }
-        Ok(())
+    }
+
+    /// The calls since they were last taken.
+    pub(crate) fn take_log(&mut self) -> Result<String, AllocError> {
+        mem::replace(&mut self.log, Line::new(self.alloc)).end()
     }
 
     /// Where a table stands; their number where it isn't there.
@@ -224,109 +280,116 @@ impl Board {
         self.tables.len()
     }
 
+    fn push_call(&mut self, call: &str, name: &[u8]) {
+        self.log.push_word(call);
+        self.log.push(' ');
+        push_bytes(&mut self.log, name);
+    }
+
     /// Begins a call: whether it fails.
     fn begin(&mut self, call: &str, name: &[u8]) -> Result<(), KeepFault> {
         self.made = self.made.saturating_add(1);
-        self.log.push(' ')?;
-        self.log.push_str(call)?;
-        self.log.push(' ')?;
-        push_bytes(&mut self.log, name)?;
-        let made = self.made;
-        if self.fail.lists(made) {
-            self.log.push_str(" failed;")?;
+        self.push_call(call, name);
+        if self.fail.lists(self.made) {
+            self.log.push_str(" failed;");
             return Err(KeepFault::Failed);
         }
         Ok(())
     }
 
+    fn push_whether(&mut self, was: bool) {
+        self.log.push_str(if was { " true;" } else { " false;" });
+    }
+
+    fn add_table(&mut self, name: &[u8], columns: &Columns) -> Result<(), AllocError> {
+        let columns = copied_columns(self.alloc, columns.as_slice())?;
+        self.tables.push(held(self.alloc, name, columns)?)?;
+        Ok(())
+    }
+
     fn made_table(&mut self, name: &[u8], columns: &Columns) -> Result<bool, KeepFault> {
         self.begin("create", name)?;
-        push_columns(&mut self.log, columns.as_slice())?;
-        if self.place(name) < self.tables.len() {
-            self.log.push_str(" false;")?;
-            return Ok(false);
+        push_columns(&mut self.log, columns.as_slice());
+        let is_new = self.place(name) >= self.tables.len();
+        if is_new {
+            self.add_table(name, columns)?;
         }
-        let held = Held {
-            name: Bytes::from_slice(self.alloc, name)?,
-            columns: copied_columns(self.alloc, columns.as_slice())?,
-            rows: Vec::new(self.alloc),
-        };
-        if self.tables.push(held).is_err() {
-            return Err(KeepFault::Memory);
-        }
-        self.log.push_str(" true;")?;
-        Ok(true)
+        self.push_whether(is_new);
+        Ok(is_new)
     }
 
     fn told_columns(&mut self, name: &[u8]) -> Result<Option<Columns>, KeepFault> {
         self.begin("columns", name)?;
         let i = self.place(name);
         if i >= self.tables.len() {
-            self.log.push_str(" none;")?;
+            self.log.push_str(" none;");
             return Ok(None);
         }
-        let columns = copied_columns(self.alloc, self.tables[i].columns.as_slice())?;
-        self.log.push(';')?;
-        Ok(Some(columns))
+        self.log.push(';');
+        Ok(Some(copied_columns(self.alloc, self.tables[i].columns.as_slice())?))
+    }
+
+    fn copied_rows(&self, i: usize) -> Result<Rows, AllocError> {
+        let mut rows = Rows::new(self.alloc);
+        if i < self.tables.len() {
+            for row in self.tables[i].rows.as_slice() {
+                rows.push(copied_row(self.alloc, row)?)?;
+            }
+        }
+        Ok(rows)
     }
 
     fn told_rows(&mut self, name: &[u8]) -> Result<Rows, KeepFault> {
         self.begin("rows", name)?;
-        let mut rows = Rows::new(self.alloc);
+        self.log.push(';');
+        Ok(self.copied_rows(self.place(name))?)
+    }
+
+    fn add_row(&mut self, name: &[u8], cells: &Cells) -> Result<Option<u64>, AllocError> {
         let i = self.place(name);
         if i < self.tables.len() {
-            for row in self.tables[i].rows.as_slice() {
-                rows.push(Row {
-                    number: row.number,
-                    cells: copied_cells(self.alloc, row.cells.as_slice())?,
-                })?;
-            }
+            self.tables[i].add(self.alloc, cells.as_slice())
+        } else {
+            Ok(None)
         }
-        self.log.push(';')?;
-        Ok(rows)
     }
 
     fn added_row(&mut self, name: &[u8], cells: &Cells) -> Result<Option<u64>, KeepFault> {
         self.begin("insert", name)?;
-        push_cells(&mut self.log, cells.as_slice())?;
-        let mut number = None;
-        let i = self.place(name);
-        if i < self.tables.len() {
-            number = self.tables[i].add(self.alloc, cells.as_slice())?;
-        }
+        push_cells(&mut self.log, cells.as_slice());
+        let number = self.add_row(name, cells)?;
         match number {
-            Some(number) => write!(self.log, " {number};")?,
-            None => self.log.push_str(" none;")?,
+            Some(number) => self.log.tell(" ", number, ";"),
+            None => self.log.push_str(" none;"),
         }
         Ok(number)
     }
 
-    fn push_whether(&mut self, was: bool) -> Result<bool, KeepFault> {
-        self.log.push_str(if was { " true;" } else { " false;" })?;
-        Ok(was)
+    fn set_row(&mut self, name: &[u8], row: u64, cells: &Cells) -> Result<bool, AllocError> {
+        let i = self.place(name);
+        if i < self.tables.len() {
+            self.tables[i].set(self.alloc, row, cells.as_slice())
+        } else {
+            Ok(false)
+        }
     }
 
     fn changed_row(&mut self, name: &[u8], row: u64, cells: &Cells) -> Result<bool, KeepFault> {
         self.begin("update", name)?;
-        write!(self.log, " {row}:")?;
-        push_cells(&mut self.log, cells.as_slice())?;
-        let i = self.place(name);
-        let mut was = false;
-        if i < self.tables.len() {
-            was = self.tables[i].set(self.alloc, row, cells.as_slice())?;
-        }
-        self.push_whether(was)
+        self.log.tell(" ", row, ":");
+        push_cells(&mut self.log, cells.as_slice());
+        let was = self.set_row(name, row, cells)?;
+        self.push_whether(was);
+        Ok(was)
     }
 
     fn taken_row(&mut self, name: &[u8], row: u64) -> Result<bool, KeepFault> {
         self.begin("delete", name)?;
-        write!(self.log, " {row}")?;
+        self.log.tell(" ", row, "");
         let i = self.place(name);
-        let mut was = false;
-        if i < self.tables.len() {
-            was = self.tables[i].take_out(row);
-        }
-        self.push_whether(was)
+        let was = i < self.tables.len() && self.tables[i].take_out(row);
+        self.push_whether(was);
+        Ok(was)
     }
 }
 

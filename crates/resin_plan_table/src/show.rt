@@ -3,56 +3,57 @@
 use resin_base::{Calls, Cell, Names, Stored, StoredRows};
 use resin_plan::{SqlAnswer, SqlResult};
 use resin_sql::{SqlRefusal, SqlStop};
-use std::alloc::AllocError;
+use resin_table_rows::Line;
 
-pub(crate) fn push_bytes(out: &mut String, bytes: &[u8]) -> Result<(), AllocError> {
-    for b in bytes {
-        match *b {
-            32..=126 => out.push(*b as char)?,
-            b => write!(out, "\\x{b:02x}")?,
-        }
+fn push_byte(out: &mut Line, b: u8) {
+    match b {
+        32..=126 => out.push(b as char),
+        _ => out.push_hexadecimal(b),
     }
-    Ok(())
 }
 
-pub(crate) fn push_cell(out: &mut String, cell: &Cell) -> Result<(), AllocError> {
+pub(crate) fn push_bytes(out: &mut Line, bytes: &[u8]) {
+    for b in bytes {
+        push_byte(out, *b);
+    }
+}
+
+pub(crate) fn push_cell(out: &mut Line, cell: &Cell) {
     match cell {
         Cell::Null => out.push('N'),
-        Cell::Int(n) => {
-            let n = *n;
-            write!(out, "{n}")
-        }
+        Cell::Int(n) => out.push_integer(*n),
         Cell::Text(text) => {
-            out.push('\'')?;
-            push_bytes(out, text.as_slice())
+            out.push('\'');
+            push_bytes(out, text.as_slice());
         }
     }
 }
 
-fn push_row(out: &mut String, row: &Stored) -> Result<(), AllocError> {
-    out.push_str(" [")?;
+fn push_row(out: &mut Line, row: &Stored) {
+    out.push_str(" [");
     for (i, cell) in row.as_slice().iter().enumerate() {
-        if i > 0 {
-            out.push(',')?;
-        }
-        push_cell(out, &cell.value)?;
-        out.push('~')?;
-        push_cell(out, &cell.shadow)?;
+        out.push_str(if i > 0 { "," } else { "" });
+        push_cell(out, &cell.value);
+        out.push('~');
+        push_cell(out, &cell.shadow);
     }
-    out.push(']')
+    out.push(']');
 }
 
-fn push_rows(out: &mut String, names: &Names, rows: &StoredRows) -> Result<(), AllocError> {
-    out.push_str("rows")?;
+fn push_names(out: &mut Line, names: &Names) {
+    out.push_str("rows");
     for name in names.as_slice() {
-        out.push(' ')?;
-        push_bytes(out, name.as_slice())?;
+        out.push(' ');
+        push_bytes(out, name.as_slice());
     }
-    out.push(':')?;
+}
+
+fn push_rows(out: &mut Line, names: &Names, rows: &StoredRows) {
+    push_names(out, names);
+    out.push(':');
     for row in rows.as_slice() {
-        push_row(out, row)?;
+        push_row(out, row);
     }
-    Ok(())
 }
 
 fn refusal(refusal: SqlRefusal) -> &'static str {
@@ -77,33 +78,29 @@ fn stop(stop: SqlStop) -> &'static str {
     }
 }
 
-pub(crate) fn push_answer(
-    out: &mut String,
-    answer: &Result<SqlAnswer, SqlStop>,
-) -> Result<(), AllocError> {
+fn push_found(out: &mut Line, found: &SqlResult) {
+    match found {
+        SqlResult::Count(count) => out.tell("count ", *count, ""),
+        SqlResult::Rows(names, rows) => push_rows(out, names, rows),
+    }
+}
+
+fn push_carried_out(out: &mut Line, answer: &SqlAnswer) {
+    push_found(out, &answer.result);
+    out.tell(" of ", answer.scanned, "");
+}
+
+pub(crate) fn push_answer(out: &mut Line, answer: &Result<SqlAnswer, SqlStop>) {
     match answer {
+        Ok(answer) => push_carried_out(out, answer),
         Err(end) => out.push_str(stop(*end)),
-        Ok(answer) => {
-            match &answer.result {
-                SqlResult::Count(count) => {
-                    let count = *count;
-                    write!(out, "count {count}")?;
-                }
-                SqlResult::Rows(names, rows) => push_rows(out, names, rows)?,
-            }
-            let scanned = answer.scanned;
-            write!(out, " of {scanned}")
-        }
     }
 }
 
 /// Adds how many calls were made, and which are listed as failed.
-pub(crate) fn push_numbers(out: &mut String, calls: &Calls) -> Result<(), AllocError> {
-    let made = calls.made;
-    write!(out, " # {made}")?;
+pub(crate) fn push_numbers(out: &mut Line, calls: &Calls) {
+    out.tell(" # ", calls.made, "");
     for number in calls.failed.as_slice() {
-        let number = *number;
-        write!(out, " failed {number}")?;
+        out.tell(" failed ", *number, "");
     }
-    Ok(())
 }

@@ -2,13 +2,16 @@
 ghost use Rattle.std.specs.Prelude.{◌<◌, IsTrue, length};
 ghost use Rattle.resin_heap.specs.Under.scan.Words.{IsName};
 
-use crate::answer::Answer;
-use crate::command::Command;
+use crate::answer::{
+    push_bytes, push_count, push_integer, push_missing, push_number, push_numbers, push_text,
+    push_truth, push_unknown,
+};
 use resin_heap::under::scan::bytes::{begins_name, byte, name_len};
 use resin_heap::under::tree::{ClassDecl, Function, Items, Name, Shared, SharedBytes};
 use resin_heap::{
     ClassFault, Classes, MOST_CLASSES, MOST_METHODS, MethodAt, PRELUDE, PreludeClass, PreludeMethod,
 };
+use resin_table_rows::{Line, Row};
 use std::alloc::{AllocError, Global};
 
 #[tactic(auto, using(crate::proofs::Names::named))]
@@ -20,11 +23,13 @@ pub fn is_name(bytes: &[u8]) -> bool
 
 /// A method without parameters and statements.
 fn function(alloc: Global, name: &str) -> Result<Function, AllocError> {
+    let parameters = Shared::new(alloc, Items::new(alloc))?;
+    let body = Shared::new(alloc, Items::new(alloc))?;
     Ok(Function {
         line: 1,
         name: SharedBytes::from_slice(alloc, name.as_bytes())?,
-        parameters: Shared::new(alloc, Items::new(alloc))?,
-        body: Shared::new(alloc, Items::new(alloc))?,
+        parameters,
+        body,
     })
 }
 
@@ -39,6 +44,11 @@ fn functions(alloc: Global, names: &str) -> Result<Items<Function>, AllocError> 
     Ok(list)
 }
 
+fn shared_functions(alloc: Global, names: &str) -> Result<Shared<Items<Function>>, AllocError> {
+    let functions = functions(alloc, names)?;
+    Shared::new(alloc, functions)
+}
+
 fn parent_name(alloc: Global, name: &str) -> Result<Option<SharedBytes>, AllocError> {
     if name.is_empty() {
         return Ok(None);
@@ -47,13 +57,16 @@ fn parent_name(alloc: Global, name: &str) -> Result<Option<SharedBytes>, AllocEr
 }
 
 /// The declaration on line 1 of a class with a parent and methods.
-fn declaration(alloc: Global, name: Name, command: Command<'_>) -> Result<ClassDecl, AllocError> {
+fn declaration(name: Name, row: Row<'_>) -> Result<ClassDecl, AllocError> {
+    let alloc = row.alloc;
+    let parent = parent_name(alloc, row.field(2))?;
+    let methods = shared_functions(alloc, row.field(3))?;
     Ok(ClassDecl {
         line: 1,
         name,
-        parent: parent_name(alloc, command.word(2))?,
+        parent,
         properties: Shared::new(alloc, Items::new(alloc))?,
-        methods: Shared::new(alloc, functions(alloc, command.word(3))?)?,
+        methods,
     })
 }
 
@@ -66,80 +79,86 @@ fn add(classes: &mut Classes, class: &ClassDecl) -> Result<u32, ClassFault> {
     }
 }
 
-fn declare(
-    alloc: Global,
-    classes: &mut Classes,
-    command: Command<'_>,
-) -> Result<Answer, AllocError> {
-    let bytes = command.bytes(1);
+fn push_added(out: &mut Line, added: Result<u32, ClassFault>) {
+    match added {
+        Ok(number) => push_integer(out, i64::from(number)),
+        Err(ClassFault::Redeclared) => push_text(out, "Redeclared"),
+        Err(ClassFault::NoParent) => push_text(out, "NoParent"),
+        Err(ClassFault::Memory) => out.note(Err(AllocError)),
+    }
+}
+
+fn declare(classes: &mut Classes, row: Row<'_>, out: &mut Line) -> Result<(), AllocError> {
+    let bytes = row.bytes(1);
     if !is_name(bytes) {
-        return Answer::word(alloc, "no name");
+        push_text(out, "no name");
+        return Ok(());
     }
-    let name = Name::new(SharedBytes::from_slice(alloc, bytes)?);
-    let class = declaration(alloc, name, command)?;
-    match add(classes, &class) {
-        Ok(number) => Ok(Answer::Integer(i64::from(number))),
-        Err(ClassFault::Redeclared) => Answer::word(alloc, "Redeclared"),
-        Err(ClassFault::NoParent) => Answer::word(alloc, "NoParent"),
-        Err(ClassFault::Memory) => Err(AllocError),
-    }
+    let name = Name::new(SharedBytes::from_slice(row.alloc, bytes)?);
+    let class = declaration(name, row)?;
+    push_added(out, add(classes, &class));
+    Ok(())
 }
 
 /// The name of the parent of a class.
-fn parent(alloc: Global, classes: &Classes, c: u32) -> Result<Answer, AllocError>
+fn push_parent(alloc: Global, classes: &Classes, c: u32, out: &mut Line)
     requires { c < length classes.now }
 {
-    let Some(parent) = classes.parent(c) else {
-        return Ok(Answer::Missing);
-    };
-    if parent < classes.len() {
-        Answer::bytes(alloc, classes.class_name(parent))
-    } else {
-        Ok(Answer::Unknown)
+    match classes.parent(c) {
+        Some(parent) if parent < classes.len() => {
+            push_bytes(alloc, out, classes.class_name(parent))
+        }
+        Some(_) => push_unknown(out),
+        None => push_missing(out),
     }
 }
 
-fn is_a(classes: &Classes, c: u32, other: &[u8]) -> Answer
+fn push_is_a(classes: &Classes, c: u32, other: &[u8], out: &mut Line)
     requires { c < length classes.now }
 {
     match classes.find(other) {
-        Some(other) => Answer::Truth(classes.is_a(c, other)),
-        None => Answer::Missing,
+        Some(other) => push_truth(out, classes.is_a(c, other)),
+        None => push_missing(out),
     }
 }
 
 /// The class whose method a call reaches, its place there, and its name as it is written there.
-fn method(alloc: Global, classes: &Classes, c: u32, name: &[u8]) -> Result<Answer, AllocError>
+fn push_method(alloc: Global, classes: &Classes, c: u32, name: &[u8], out: &mut Line)
     requires { c < length classes.now }
 {
     let Some(at) = classes.method(c, name) else {
-        return Ok(Answer::Missing);
+        return push_missing(out);
     };
-    let written = String::from_utf8_lossy(alloc, classes.function(at).name.as_slice())?;
     let MethodAt { class, index } = at;
-    Ok(Answer::Text(format!(in alloc; "{class} {index} {written}")?))
+    out.tell(" = ", u64::from(class), " ");
+    out.tell("", u64::from(index), " ");
+    let written = String::from_utf8_lossy(alloc, classes.function(at).name.as_slice());
+    if let Some(written) = out.taken(written) {
+        out.push_str(written.as_str());
+    }
+}
+
+fn push_ancestry(out: &mut Line, ancestry: Result<Vec<u32>, AllocError>) {
+    if let Some(ancestry) = out.taken(ancestry) {
+        push_numbers(out, &ancestry);
+    }
 }
 
 /// An act on a class that is there.
-fn act_on_class(
-    alloc: Global,
-    classes: &Classes,
-    c: u32,
-    command: Command<'_>,
-) -> Result<Answer, AllocError>
+fn act_on_class(classes: &Classes, c: u32, row: Row<'_>, out: &mut Line)
     requires { c < length classes.now }
 {
-    match command.name() {
-        "parent" => parent(alloc, classes, c),
-        "is_a" => Ok(is_a(classes, c, command.bytes(2))),
-        "method" => method(alloc, classes, c, command.bytes(2)),
-        "ancestry" => Ok(Answer::Numbers(classes.ancestry(alloc, c)?)),
-        "line" => Ok(Answer::Count(u64::from(classes.declaration(c).line))),
+    match row.field(0) {
+        "parent" => push_parent(row.alloc, classes, c, out),
+        "is_a" => push_is_a(classes, c, row.bytes(2), out),
+        "method" => push_method(row.alloc, classes, c, row.bytes(2), out),
+        "ancestry" => push_ancestry(out, classes.ancestry(row.alloc, c)),
+        "line" => push_count(out, u64::from(classes.declaration(c).line)),
         "properties" => {
             let properties = classes.declaration(c).properties.get();
-            Ok(Answer::Count(properties.len() as u64))
+            push_count(out, properties.len() as u64)
         }
-        _ => Ok(Answer::Unknown),
+        _ => push_unknown(out),
     }
 }
 
@@ -149,54 +168,47 @@ fn runtime_class(name: &str) -> Option<PreludeClass> {
 }
 
 /// What the runtime does in place of a method.
-fn runtime_method(alloc: Global, class: u32, index: u32) -> Result<Answer, AllocError> {
+fn push_runtime_method(class: u32, index: u32, out: &mut Line) {
     match PreludeMethod::at(MethodAt { class, index }) {
-        Some(method) => Ok(Answer::Text(format!(in alloc; "{method:?}")?)),
-        None => Ok(Answer::Missing),
+        Some(method) => write!(out, " = {method:?}"),
+        None => push_missing(out),
     }
 }
 
 /// The name of the class of the runtime of a number.
-fn numbered(alloc: Global, number: u32) -> Result<Answer, AllocError> {
+fn push_numbered(number: u32, out: &mut Line) {
     match PreludeClass::numbered(number) {
-        Some(class) => Answer::word(alloc, class.name()),
-        None => Ok(Answer::Missing),
+        Some(class) => push_text(out, class.name()),
+        None => push_missing(out),
     }
 }
 
-fn act_on_runtime(alloc: Global, command: Command<'_>) -> Result<Answer, AllocError> {
-    let class = runtime_class(command.word(1)).map(PreludeClass::number);
-    match command.name() {
-        "numbered" => numbered(alloc, command.number(1)),
-        "runtime_method" => {
-            let class = class.unwrap_or(command.number(1));
-            runtime_method(alloc, class, command.number(2))
-        }
-        _ => Ok(Answer::Unknown),
+fn runtime_number(row: Row<'_>) -> u32 {
+    match runtime_class(row.field(1)) {
+        Some(class) => class.number(),
+        None => row.number(1),
     }
 }
 
-fn act_on_named(
-    alloc: Global,
-    classes: &Classes,
-    command: Command<'_>,
-) -> Result<Answer, AllocError> {
-    match classes.find(command.bytes(1)) {
-        Some(c) => act_on_class(alloc, classes, c, command),
-        None => Ok(Answer::Missing),
+fn act_on_named(classes: &Classes, row: Row<'_>, out: &mut Line) {
+    match classes.find(row.bytes(1)) {
+        Some(c) => act_on_class(classes, c, row, out),
+        None => push_missing(out),
     }
 }
 
-pub fn act(
-    alloc: Global,
-    classes: &mut Classes,
-    command: Command<'_>,
-) -> Result<Answer, AllocError> {
-    match command.name() {
-        "count" => Ok(Answer::Count(u64::from(classes.len()))),
-        "find" => Ok(Answer::number(classes.find(command.bytes(1)))),
-        "declare" => declare(alloc, classes, command),
-        "runtime_method" | "numbered" => act_on_runtime(alloc, command),
-        _ => act_on_named(alloc, classes, command),
+fn push_declared(classes: &mut Classes, row: Row<'_>, out: &mut Line) {
+    let done = declare(classes, row, out);
+    out.note(done);
+}
+
+pub fn act(classes: &mut Classes, row: Row<'_>, out: &mut Line) {
+    match row.field(0) {
+        "count" => push_count(out, u64::from(classes.len())),
+        "find" => push_number(out, classes.find(row.bytes(1))),
+        "declare" => push_declared(classes, row, out),
+        "runtime_method" => push_runtime_method(runtime_number(row), row.number(2), out),
+        "numbered" => push_numbered(row.number(1), out),
+        _ => act_on_named(classes, row, out),
     }
 }

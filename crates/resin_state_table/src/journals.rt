@@ -1,98 +1,100 @@
 //! Acts on a journal.
-use crate::answer::Answer;
-use crate::command::Command;
+use crate::answer::{push_bytes, push_count, push_missing, push_text, push_unknown};
+use crate::command::channel;
 use resin_heap::under::bytes::Bytes;
 use resin_heap::under::lstr::LText;
 use resin_stage::under::journal::{Event, Journal, denial_line};
-use std::alloc::{AllocError, Global};
+use resin_table_rows::{Line, Row};
+use std::alloc::AllocError;
 
 /// `denied|WRITE|CHANNEL|POLICY|CLASS|FROM|TO|BY`
-fn denied(alloc: Global, command: Command<'_>) -> Result<Event, AllocError> {
+fn denied(row: Row<'_>) -> Result<Event, AllocError> {
+    let class = Bytes::from_slice(row.alloc, row.bytes(4))?;
+    let by = Bytes::from_slice(row.alloc, row.bytes(7))?;
     Ok(Event::Denied {
-        write: command.count(1),
-        channel: command.channel(2),
-        policy: command.number(3),
-        class: Bytes::from_slice(alloc, command.bytes(4))?,
-        from: command.count(5),
-        to: command.count(6),
-        by: Bytes::from_slice(alloc, command.bytes(7))?,
+        write: row.count(1),
+        channel: channel(row.field(2)),
+        policy: row.number(3),
+        class,
+        from: row.count(5),
+        to: row.count(6),
+        by,
     })
 }
 
 /// `filter_denied|WRITE|CHANNEL|FILTER|CLASS|LEN|BY`
-fn filter_denied(alloc: Global, command: Command<'_>) -> Result<Event, AllocError> {
+fn filter_denied(row: Row<'_>) -> Result<Event, AllocError> {
+    let class = Bytes::from_slice(row.alloc, row.bytes(4))?;
+    let by = Bytes::from_slice(row.alloc, row.bytes(6))?;
     Ok(Event::FilterDenied {
-        write: command.count(1),
-        channel: command.channel(2),
-        filter: command.number(3),
-        class: Bytes::from_slice(alloc, command.bytes(4))?,
-        len: command.count(5),
-        by: Bytes::from_slice(alloc, command.bytes(6))?,
+        write: row.count(1),
+        channel: channel(row.field(2)),
+        filter: row.number(3),
+        class,
+        len: row.count(5),
+        by,
     })
 }
 
 /// `passed|WRITE|POLICY`
-fn passed(command: Command<'_>) -> Event {
+fn passed(row: Row<'_>) -> Event {
     Event::Passed {
-        write: command.count(1),
-        policy: command.number(2),
+        write: row.count(1),
+        policy: row.number(2),
     }
 }
 
 /// `sent|WRITE|CHANNEL|TEXT`
-fn sent(alloc: Global, command: Command<'_>) -> Result<Event, AllocError> {
-    match LText::plain(alloc, command.bytes(3)) {
+fn sent(row: Row<'_>) -> Result<Event, AllocError> {
+    match LText::plain(row.alloc, row.bytes(3)) {
         Ok(text) => Ok(Event::Sent {
-            write: command.count(1),
-            channel: command.channel(2),
+            write: row.count(1),
+            channel: channel(row.field(2)),
             text,
         }),
         Err(_) => Err(AllocError),
     }
 }
 
-/// The event that an act notes.
-fn event(alloc: Global, command: Command<'_>) -> Result<Option<Event>, AllocError> {
-    match command.name() {
-        "passed" => Ok(Some(passed(command))),
-        "sent" => Ok(Some(sent(alloc, command)?)),
-        "denied" => Ok(Some(denied(alloc, command)?)),
-        "filter_denied" => Ok(Some(filter_denied(alloc, command)?)),
-        _ => Ok(None),
-    }
+fn push_event(journal: &mut Journal, event: Result<Event, AllocError>) -> Result<(), AllocError> {
+    journal.push(event?)
 }
 
-/// The line of an event in the denial log, with the line feed behind it.
-fn line(alloc: Global, request: u64, event: &Event) -> Result<Answer, AllocError> {
-    match denial_line(alloc, request, event)? {
-        Some(line) => Answer::bytes(alloc, line.as_slice()),
-        None => Ok(Answer::Missing),
+/// Puts the line of an event in the denial log last, with the line feed behind it.
+fn push_line(row: Row<'_>, event: &Event, out: &mut Line) -> Result<(), AllocError> {
+    match denial_line(row.alloc, row.count(1), event)? {
+        Some(line) => push_bytes(row.alloc, out, line.as_slice()),
+        None => push_missing(out),
+    }
+    Ok(())
+}
+
+fn ask_for_line(journal: &Journal, row: Row<'_>, out: &mut Line) {
+    match journal.as_slice().get(row.number(2) as usize) {
+        Some(event) => {
+            let done = push_line(row, event, out);
+            out.note(done);
+        }
+        None => push_text(out, "no event"),
     }
 }
 
 /// `line|REQUEST|PLACE` asks for the line of the event at a place, the first of which is 0, and `events` for their count.
-pub fn ask(alloc: Global, journal: &Journal, command: Command<'_>) -> Result<Answer, AllocError> {
-    let events = journal.as_slice();
-    match command.name() {
-        "events" => Ok(Answer::Count(events.len() as u64)),
-        "line" => match events.get(command.number(2) as usize) {
-            Some(event) => line(alloc, command.count(1), event),
-            None => Answer::word(alloc, "no event"),
-        },
-        _ => Ok(Answer::Unknown),
+pub fn ask(journal: &Journal, row: Row<'_>, out: &mut Line) {
+    match row.field(0) {
+        "events" => push_count(out, journal.as_slice().len() as u64),
+        "line" => ask_for_line(journal, row, out),
+        _ => push_unknown(out),
     }
 }
 
-pub fn act(
-    alloc: Global,
-    journal: &mut Journal,
-    command: Command<'_>,
-) -> Result<Answer, AllocError> {
-    match event(alloc, command)? {
-        Some(event) => {
-            journal.push(event)?;
-            Ok(Answer::Done)
-        }
-        None => ask(alloc, journal, command),
-    }
+pub fn act(journal: &mut Journal, row: Row<'_>, out: &mut Line) {
+    let event = match row.field(0) {
+        "passed" => Ok(passed(row)),
+        "sent" => sent(row),
+        "denied" => denied(row),
+        "filter_denied" => filter_denied(row),
+        _ => return ask(journal, row, out),
+    };
+    out.note(push_event(journal, event));
 }

@@ -19,17 +19,16 @@ mod pages;
 mod scopes;
 mod stages;
 
-use crate::answer::{Answer, push_answer};
-use crate::command::Command;
 use resin_heap::{Classes, Heap};
 use resin_stage::Stage;
 use resin_stage::under::journal::Journal;
 use resin_stage::under::scope::{Chains, Page, Scopes};
+use resin_table_rows::{Line, Row, split_row};
 use std::alloc::{AllocError, Global};
+use std::cell::Cell;
 use std::io;
 
 /// What the acts act on.
-#[derive(Drop)]
 enum State {
     Nothing,
     Classes(Classes),
@@ -41,60 +40,105 @@ enum State {
     Stage(Stage),
 }
 
-/// The new state that a line begins, if it names one.
-fn begun(alloc: Global, line: &str) -> Result<Option<State>, AllocError> {
-    match line {
-        "classes" => Ok(Some(State::Classes(Classes::new(alloc)?))),
-        "objects" => Ok(Some(State::Objects(Heap::new(alloc)))),
-        "scopes" => Ok(Some(State::Scopes(Scopes::new(alloc)?))),
-        "chains" => Ok(Some(State::Chains(Chains::new(alloc)))),
-        "page" => Ok(Some(State::Page(Page::new(alloc)))),
-        "journal" => Ok(Some(State::Journal(Journal::new(alloc)))),
-        "stage" => Ok(Some(State::Stage(Stage::new(alloc)))),
-        _ => Ok(None),
+impl Drop for State {
+    fn drop(self) {
+        match self {
+            State::Nothing => {}
+            State::Classes(_) => {}
+            State::Objects(_) => {}
+            State::Scopes(_) => {}
+            State::Chains(_) => {}
+            State::Page(_) => {}
+            State::Journal(_) => {}
+            State::Stage(_) => {}
+        }
     }
 }
 
-fn act(alloc: Global, state: &mut State, command: Command<'_>) -> Result<Answer, AllocError> {
+/// The new state that a line begins; `Nothing` where it names none.
+fn begun(alloc: Global, line: &str) -> Result<State, AllocError> {
+    match line {
+        "classes" => Ok(State::Classes(Classes::new(alloc)?)),
+        "objects" => Ok(State::Objects(Heap::new(alloc))),
+        "scopes" => Ok(State::Scopes(Scopes::new(alloc)?)),
+        "chains" => Ok(State::Chains(Chains::new(alloc))),
+        "page" => Ok(State::Page(Page::new(alloc))),
+        "journal" => Ok(State::Journal(Journal::new(alloc))),
+        "stage" => Ok(State::Stage(Stage::new(alloc))),
+        _ => Ok(State::Nothing),
+    }
+}
+
+fn is_kind(line: &str) -> bool {
+    match line {
+        "classes" | "objects" | "scopes" | "chains" | "page" | "journal" | "stage" => true,
+        _ => false,
+    }
+}
+
+fn act(state: &mut State, row: Row<'_>, out: &mut Line) {
     match state {
-        State::Nothing => Ok(Answer::Unknown),
-        State::Classes(classes) => classes::act(alloc, classes, command),
-        State::Objects(heap) => objects::act(alloc, heap, command),
-        State::Scopes(scopes) => scopes::act(scopes, command),
-        State::Chains(chains) => pages::act_on_chains(alloc, chains, command),
-        State::Page(page) => pages::act(alloc, page, command),
-        State::Journal(journal) => journals::act(alloc, journal, command),
-        State::Stage(stage) => stages::act(alloc, stage, command),
+        State::Nothing => answer::push_unknown(out),
+        State::Classes(classes) => classes::act(classes, row, out),
+        State::Objects(heap) => objects::act(heap, row, out),
+        State::Scopes(scopes) => scopes::act(scopes, row, out),
+        State::Chains(chains) => pages::act_on_chains(chains, row, out),
+        State::Page(page) => pages::act(page, row, out),
+        State::Journal(journal) => journals::act(journal, row, out),
+        State::Stage(stage) => stages::act(stage, row, out),
+    }
+}
+
+/// Acts on the state, and puts the answer behind the act.
+fn push_act(
+    alloc: Global,
+    state: &mut State,
+    line: &str,
+    out: &mut Line,
+) -> Result<(), AllocError> {
+    let fields = split_row(alloc, line)?;
+    let is_unreadable = Cell::new(false);
+    act(
+        state,
+        Row {
+            alloc,
+            fields: &fields,
+            is_unreadable: &is_unreadable,
+        },
+        out,
+    );
+    if is_unreadable.get() {
+        out.push_word("unreadable");
+    }
+    Ok(())
+}
+
+/// Begins a new state, or acts on the one that is there.
+fn take(alloc: Global, state: &mut State, line: &str, out: &mut Line) -> Result<(), AllocError> {
+    if is_kind(line) {
+        *state = begun(alloc, line)?;
+        Ok(())
+    } else {
+        push_act(alloc, state, line, out)
     }
 }
 
 /// The line with its answer.
 fn answered(alloc: Global, state: &mut State, line: &str) -> Result<String, AllocError> {
-    let mut out = String::from_str(alloc, line)?;
-    let fields: Vec<&str> = line.split('|').collect(alloc)?;
-    let answer = act(alloc, state, Command { fields: &fields })?;
-    push_answer(&mut out, &answer)?;
-    Ok(out)
-}
-
-fn read(alloc: Global, state: &mut State, line: &str) -> Result<String, AllocError> {
-    if line.starts_with('#') {
-        return String::from_str(alloc, line);
+    let mut out = Line::new(alloc);
+    out.push_str(line);
+    if !line.starts_with('#') {
+        let done = take(alloc, state, line, &mut out);
+        out.note(done);
     }
-    match begun(alloc, line)? {
-        Some(new) => {
-            *state = new;
-            String::from_str(alloc, line)
-        }
-        None => answered(alloc, state, line),
-    }
+    out.end()
 }
 
 fn main(rt: HostRuntime) -> io::Result<()> {
     let mut state = State::Nothing;
     for line in rt.lines(rt.alloc()) {
         let line = line?;
-        let text = read(rt.alloc(), &mut state, line.as_str())?;
+        let text = answered(rt.alloc(), &mut state, line.as_str())?;
         rt.println(text)?;
     }
     Ok(())

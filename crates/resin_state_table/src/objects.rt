@@ -1,12 +1,14 @@
 //! Acts on objects, whose fields hold integers.
 ghost use Rattle.resin_heap.specs.Objects.{IsObject};
 
-use crate::answer::Answer;
-use crate::command::Command;
+use crate::answer::{
+    push_found, push_integer, push_missing, push_number, push_truth, push_unknown,
+};
 use resin_heap::under::label::PSet;
 use resin_heap::under::value::Value;
 use resin_heap::{Heap, MOST_OBJECTS};
-use std::alloc::{AllocError, Global};
+use resin_table_rows::{Line, Row};
+use std::alloc::AllocError;
 
 /// The integer that a value is.
 pub fn integer(value: Option<&Value>) -> Option<i64> {
@@ -20,110 +22,115 @@ pub fn value(n: i64) -> Value {
     Value::Int(n, PSet::empty())
 }
 
-fn make(heap: &mut Heap, class: u32) -> Result<Answer, AllocError> {
+fn make(heap: &mut Heap, class: u32, out: &mut Line) -> Result<(), AllocError> {
     if heap.len() < MOST_OBJECTS {
-        Ok(Answer::Integer(i64::from(heap.make(class)?)))
+        push_integer(out, i64::from(heap.make(class)?));
+        Ok(())
     } else {
         Err(AllocError)
     }
 }
 
-fn push_field(out: &mut String, name: &[u8], value: &Value) -> Result<(), AllocError> {
-    if !out.is_empty() {
-        out.push(' ')?;
+fn push_made(heap: &mut Heap, class: u32, out: &mut Line) {
+    let done = make(heap, class, out);
+    out.note(done);
+}
+
+/// Puts a field last, behind a space if it isn't the first.
+fn push_field(out: &mut Line, is_first: bool, name: &[u8], value: &Value) {
+    if !is_first {
+        out.push(' ');
     }
     for b in name {
-        out.push(char::from(*b))?;
+        out.push(char::from(*b));
     }
     match integer(Some(value)) {
-        Some(n) => write!(out, ":{n}"),
+        Some(n) => {
+            out.push(':');
+            out.push_integer(n);
+        }
         None => out.push_str(":none"),
     }
 }
 
 /// The fields of an object, one by one.
-fn fields(alloc: Global, heap: &Heap, o: u32) -> Result<Answer, AllocError>
+fn push_fields(heap: &Heap, o: u32, out: &mut Line)
     requires { IsObject heap.now o }
 {
-    let mut out = String::new(alloc);
+    out.push_str(" = ");
     let kept = heap.fields(o);
     for i in 0..kept.len() {
         let (name, value) = kept.entry(i);
-        push_field(&mut out, name, value)?;
+        push_field(out, i == 0, name, value);
     }
-    Ok(Answer::Text(out))
 }
 
 /// The fields of an object, as a list.
-fn list(alloc: Global, heap: &Heap, o: u32) -> Result<Answer, AllocError>
+fn push_list(heap: &Heap, o: u32, row: Row<'_>, out: &mut Line) -> Result<(), AllocError>
     requires { IsObject heap.now o }
 {
-    let mut out = String::new(alloc);
-    let list = heap.fields(o).to_list(alloc)?;
-    for (name, value) in list.as_slice() {
-        push_field(&mut out, name.as_slice(), value)?;
+    out.push_str(" = ");
+    let list = heap.fields(o).to_list(row.alloc)?;
+    for (i, (name, value)) in list.as_slice().iter().enumerate() {
+        push_field(out, i == 0, name.as_slice(), value);
     }
-    Ok(Answer::Text(out))
+    Ok(())
 }
 
-fn exchange(heap: &mut Heap, o: u32, name: &[u8], n: i64) -> Answer
+fn exchange(heap: &mut Heap, o: u32, row: Row<'_>, out: &mut Line)
     requires { IsObject heap.old o }
 {
+    let name = row.bytes(2);
     if heap.get(o, name).is_some() {
-        let old = heap.exchange(o, name, value(n));
-        Answer::integer(integer(Some(&old)))
+        let old = heap.exchange(o, name, value(row.integer(3)));
+        push_found(out, integer(Some(&old)));
     } else {
-        Answer::Missing
+        push_missing(out);
     }
 }
 
-fn set(heap: &mut Heap, o: u32, name: &[u8], n: i64) -> Result<Answer, AllocError>
-    requires { IsObject heap.old o }
+/// Looks at an object that is there.
+fn look_at_object(heap: &Heap, o: u32, row: Row<'_>, out: &mut Line)
+    requires { IsObject heap.now o }
 {
-    heap.set(o, name, value(n))?;
-    Ok(Answer::Done)
+    match row.field(0) {
+        "class_of" => push_number(out, Some(heap.class_of(o))),
+        "fields" => push_fields(heap, o, out),
+        "has_none" => push_truth(out, heap.fields(o).is_empty()),
+        "get" => push_found(out, integer(heap.get(o, row.bytes(2)))),
+        "list" => {
+            let done = push_list(heap, o, row, out);
+            out.note(done);
+        }
+        _ => push_unknown(out),
+    }
 }
 
 /// An act on an object that is there.
-fn act_on_object(
-    alloc: Global,
-    heap: &mut Heap,
-    o: u32,
-    command: Command<'_>,
-) -> Result<Answer, AllocError>
+fn act_on_object(heap: &mut Heap, o: u32, row: Row<'_>, out: &mut Line)
     requires { IsObject heap.old o }
 {
-    let name = command.bytes(2);
-    match command.name() {
-        "class_of" => Ok(Answer::number(Some(heap.class_of(o)))),
-        "fields" => fields(alloc, heap, o),
-        "list" => list(alloc, heap, o),
-        "has_none" => Ok(Answer::Truth(heap.fields(o).is_empty())),
-        "get" => Ok(Answer::integer(integer(heap.get(o, name)))),
-        "set" => set(heap, o, name, command.integer(3)),
-        "exchange" => Ok(exchange(heap, o, name, command.integer(3))),
-        "unset" => Ok(Answer::Truth(heap.unset(o, name))),
-        _ => Ok(Answer::Unknown),
+    match row.field(0) {
+        "set" => out.note(heap.set(o, row.bytes(2), value(row.integer(3)))),
+        "exchange" => exchange(heap, o, row, out),
+        "unset" => push_truth(out, heap.unset(o, row.bytes(2))),
+        _ => look_at_object(heap, o, row, out),
     }
 }
 
-fn act_on_numbered(
-    alloc: Global,
-    heap: &mut Heap,
-    command: Command<'_>,
-) -> Result<Answer, AllocError> {
-    let o = command.number(1);
+fn act_on_numbered(heap: &mut Heap, row: Row<'_>, out: &mut Line) {
+    let o = row.number(1);
     if heap.has(o) {
-        act_on_object(alloc, heap, o, command)
+        act_on_object(heap, o, row, out);
     } else {
-        Ok(Answer::Missing)
+        push_missing(out);
     }
 }
 
-pub fn act(alloc: Global, heap: &mut Heap, command: Command<'_>) -> Result<Answer, AllocError> {
-    match command.name() {
-        "is_empty" => Ok(Answer::Truth(heap.is_empty())),
-        "make" => make(heap, command.number(1)),
-        _ => act_on_numbered(alloc, heap, command),
+pub fn act(heap: &mut Heap, row: Row<'_>, out: &mut Line) {
+    match row.field(0) {
+        "is_empty" => push_truth(out, heap.is_empty()),
+        "make" => push_made(heap, row.number(1), out),
+        _ => act_on_numbered(heap, row, out),
     }
 }

@@ -1,141 +1,124 @@
 //! Acts on the filters of channels and functions, and on the answer under way.
-use crate::answer::Answer;
-use crate::command::Command;
+use crate::answer::{push_count, push_missing, push_numbers, push_text, push_unknown};
+use crate::command::channel;
 use resin_heap::under::bytes::Header;
 use resin_heap::under::lstr::{LText, TextFault};
 use resin_stage::under::scope::{Chains, Page};
-use std::alloc::{AllocError, Global};
+use resin_table_rows::{Line, Row};
+use std::alloc::AllocError;
 
-pub fn act_on_chains(
-    alloc: Global,
-    chains: &mut Chains,
-    command: Command<'_>,
-) -> Result<Answer, AllocError> {
-    let channel = command.channel(1);
-    let filter = command.number(2);
-    match command.name() {
-        "chain" => Answer::numbers(alloc, chains.chain(channel)),
-        "func_chain" => Answer::numbers(alloc, chains.func_chain(command.bytes(1))),
-        "append" => {
-            chains.append(channel, filter)?;
-            Ok(Answer::Done)
-        }
-        "append_func" => {
-            chains.append_func(command.bytes(1), filter)?;
-            Ok(Answer::Done)
-        }
-        "take_out" => {
-            chains.take_out(channel, filter);
-            Ok(Answer::Done)
-        }
-        _ => Ok(Answer::Unknown),
+pub fn act_on_chains(chains: &mut Chains, row: Row<'_>, out: &mut Line) {
+    let filter = row.number(2);
+    match row.field(0) {
+        "chain" => push_numbers(out, chains.chain(channel(row.field(1)))),
+        "func_chain" => push_numbers(out, chains.func_chain(row.bytes(1))),
+        "append" => out.note(chains.append(channel(row.field(1)), filter)),
+        "append_func" => out.note(chains.append_func(row.bytes(1), filter)),
+        "take_out" => chains.take_out(channel(row.field(1)), filter),
+        _ => push_unknown(out),
     }
 }
 
-fn push_bytes(out: &mut String, bytes: &[u8]) -> Result<(), AllocError> {
+fn push_bytes(out: &mut Line, bytes: &[u8]) {
     for b in bytes {
-        out.push(char::from(*b))?;
+        out.push(char::from(*b));
     }
-    Ok(())
 }
 
-/// Header lines, each with a `;` behind it.
-pub fn header_lines(alloc: Global, headers: &[Header]) -> Result<String, AllocError> {
-    let mut out = String::new(alloc);
+/// Puts header lines last, each with a `;` behind it.
+pub fn push_header_lines(out: &mut Line, headers: &[Header]) {
     for header in headers {
-        push_bytes(&mut out, header.name.as_slice())?;
-        out.push(':')?;
-        push_bytes(&mut out, header.value.as_slice())?;
-        out.push(';')?;
+        push_bytes(out, header.name.as_slice());
+        out.push(':');
+        push_bytes(out, header.value.as_slice());
+        out.push(';');
     }
-    Ok(out)
 }
 
-/// The texts of the buffers, from the outermost to the innermost, each with a `;` behind it.
-fn buffer_texts(alloc: Global, buffers: &[LText]) -> Result<String, AllocError> {
-    let mut out = String::new(alloc);
+/// Puts the texts of the buffers last, from the outermost to the innermost, each with a `;` behind it.
+fn push_buffers(out: &mut Line, buffers: &[LText]) {
     for buffer in buffers {
-        push_bytes(&mut out, buffer.bytes())?;
-        out.push(';')?;
+        push_bytes(out, buffer.bytes());
+        out.push(';');
     }
-    Ok(out)
 }
 
-fn refused(alloc: Global, fault: TextFault) -> Result<Answer, AllocError> {
-    match fault {
-        TextFault::TooLong => Answer::word(alloc, "TooLong"),
-        TextFault::Memory => Err(AllocError),
+fn push_refusal(out: &mut Line, done: Result<(), TextFault>) {
+    match done {
+        Ok(()) => {}
+        Err(TextFault::TooLong) => push_text(out, "TooLong"),
+        Err(TextFault::Memory) => out.note(Err(AllocError)),
     }
 }
 
 /// Puts a text into the innermost buffer.
-fn buffer(alloc: Global, page: &mut Page, text: &LText) -> Result<Answer, AllocError> {
+fn buffer(page: &mut Page, row: Row<'_>, text: &LText, out: &mut Line) {
     if page.buffers.as_slice().len() == 0 {
-        return Ok(Answer::Missing);
+        push_missing(out);
+    } else {
+        push_refusal(out, page.add_buffered(row.alloc, text));
     }
-    match page.add_buffered(alloc, text) {
-        Ok(()) => Ok(Answer::Done),
-        Err(fault) => refused(alloc, fault),
+}
+
+fn open(page: &mut Page, text: LText, out: &mut Line) {
+    out.note(page.buffers.push(text));
+}
+
+fn buffer_marked(page: &mut Page, row: Row<'_>, marked: Result<LText, AllocError>, out: &mut Line) {
+    if let Some(marked) = out.taken(marked) {
+        buffer(page, row, &marked, out);
     }
 }
 
 /// An act with a text.
-fn act_with(
-    alloc: Global,
-    page: &mut Page,
-    text: LText,
-    command: Command<'_>,
-) -> Result<Answer, AllocError> {
-    match command.name() {
-        "open" => {
-            page.buffers.push(text)?;
-            Ok(Answer::Done)
-        }
-        "mark" => {
-            let marked = text.mark(alloc, command.number(2))?;
-            buffer(alloc, page, &marked)
-        }
-        "buffer" => buffer(alloc, page, &text),
-        _ => Ok(Answer::Unknown),
+fn act_with(page: &mut Page, row: Row<'_>, text: LText, out: &mut Line) {
+    match row.field(0) {
+        "open" => open(page, text, out),
+        "mark" => buffer_marked(page, row, text.mark(row.alloc, row.number(2)), out),
+        "buffer" | "fill" => buffer(page, row, &text, out),
+        _ => push_unknown(out),
     }
 }
 
-/// Puts so many bytes `x` into the innermost buffer.
-fn fill(alloc: Global, page: &mut Page, count: usize) -> Result<Answer, AllocError> {
-    let bytes = vec![in alloc; b'x'; count]?;
-    match LText::plain(alloc, &bytes) {
-        Ok(text) => buffer(alloc, page, &text),
-        Err(fault) => refused(alloc, fault),
+/// So many bytes `x`.
+fn filling(row: Row<'_>) -> Result<LText, TextFault> {
+    let bytes = vec![in row.alloc; b'x'; row.number(1) as usize]?;
+    LText::plain(row.alloc, &bytes)
+}
+
+fn change(page: &mut Page, row: Row<'_>, out: &mut Line) {
+    let text = if row.field(0) == "fill" {
+        filling(row)
+    } else {
+        LText::plain(row.alloc, row.bytes(1))
+    };
+    match text {
+        Ok(text) => act_with(page, row, text, out),
+        Err(fault) => push_refusal(out, Err(fault)),
     }
 }
 
-fn change(alloc: Global, page: &mut Page, command: Command<'_>) -> Result<Answer, AllocError> {
-    match LText::plain(alloc, command.bytes(1)) {
-        Ok(text) => act_with(alloc, page, text, command),
-        Err(fault) => refused(alloc, fault),
+fn put_header(page: &mut Page, row: Row<'_>) -> Result<(), AllocError> {
+    let replace = row.field(3) == "replace";
+    page.put_header(row.alloc, row.bytes(1), row.bytes(2), replace)
+}
+
+fn push_parts(page: &Page, row: Row<'_>, out: &mut Line) {
+    out.push_str(" = ");
+    if row.field(0) == "headers" {
+        push_header_lines(out, page.headers.as_slice());
+    } else {
+        push_buffers(out, page.buffers.as_slice());
     }
 }
 
-fn put_header(alloc: Global, page: &mut Page, command: Command<'_>) -> Result<Answer, AllocError> {
-    let replace = command.word(3) == "replace";
-    page.put_header(alloc, command.bytes(1), command.bytes(2), replace)?;
-    Ok(Answer::Done)
-}
-
-fn set_status(page: &mut Page, word: &str) -> Answer {
-    page.status = word.parse::<u16>().unwrap_or(0);
-    Answer::Done
-}
-
-pub fn act(alloc: Global, page: &mut Page, command: Command<'_>) -> Result<Answer, AllocError> {
-    match command.name() {
-        "put_header" => put_header(alloc, page, command),
-        "set_status" => Ok(set_status(page, command.word(1))),
-        "status" => Ok(Answer::Count(u64::from(page.status))),
-        "headers" => Ok(Answer::Text(header_lines(alloc, page.headers.as_slice())?)),
-        "buffers" => Ok(Answer::Text(buffer_texts(alloc, page.buffers.as_slice())?)),
-        "open_buffers" => Ok(Answer::Count(page.buffers.as_slice().len() as u64)),
-        "fill" => fill(alloc, page, command.number(1) as usize),
-        _ => change(alloc, page, command),
+pub fn act(page: &mut Page, row: Row<'_>, out: &mut Line) {
+    match row.field(0) {
+        "put_header" => out.note(put_header(page, row)),
+        "set_status" => page.status = row.field(1).parse::<u16>().unwrap_or(0),
+        "status" => push_count(out, u64::from(page.status)),
+        "headers" | "buffers" => push_parts(page, row, out),
+        "open_buffers" => push_count(out, page.buffers.as_slice().len() as u64),
+        _ => change(page, row, out),
     }
 }

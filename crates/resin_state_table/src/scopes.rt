@@ -1,50 +1,44 @@
 //! Acts on variables, which hold integers.
-use crate::answer::Answer;
-use crate::command::Command;
+use crate::answer::{push_found, push_missing, push_unknown};
 use crate::objects::{integer, value};
 use resin_stage::under::scope::Scopes;
-use std::alloc::AllocError;
+use resin_table_rows::{Line, Row};
 
-fn leave(scopes: &mut Scopes) -> Answer {
+fn leave(scopes: &mut Scopes, out: &mut Line) {
     if scopes.open_calls() > 0 {
         scopes.leave();
-        Answer::Done
     } else {
-        Answer::Missing
+        push_missing(out);
     }
 }
 
-fn exchange(scopes: &mut Scopes, name: &[u8], n: i64) -> Answer {
+fn exchange(scopes: &mut Scopes, name: &[u8], n: i64, out: &mut Line) {
     if scopes.get(name).is_some() {
         let old = scopes.exchange(name, value(n));
-        Answer::integer(integer(Some(&old)))
+        push_found(out, integer(Some(&old)));
     } else {
-        Answer::Missing
+        push_missing(out);
     }
 }
 
 /// An act that may want memory.
-fn grow(scopes: &mut Scopes, command: Command<'_>) -> Result<Answer, AllocError> {
-    let name = command.bytes(1);
-    match command.name() {
-        "enter" => scopes.enter()?,
-        "set" => scopes.set(name, value(command.integer(2)))?,
-        "bind" => scopes.bind(name)?,
-        _ => return Ok(Answer::Unknown),
+fn grow(scopes: &mut Scopes, row: Row<'_>, out: &mut Line) {
+    let name = row.bytes(1);
+    match row.field(0) {
+        "enter" => out.note(scopes.enter()),
+        "set" => out.note(scopes.set(name, value(row.integer(2)))),
+        "bind" => out.note(scopes.bind(name)),
+        _ => push_unknown(out),
     }
-    Ok(Answer::Done)
 }
 
-pub fn act(scopes: &mut Scopes, command: Command<'_>) -> Result<Answer, AllocError> {
-    let name = command.bytes(1);
-    match command.name() {
-        "leave" => Ok(leave(scopes)),
-        "get" => Ok(Answer::integer(integer(scopes.get(name)))),
-        "exchange" => Ok(exchange(scopes, name, command.integer(2))),
-        "unset" => {
-            scopes.unset(name);
-            Ok(Answer::Done)
-        }
-        _ => grow(scopes, command),
+pub fn act(scopes: &mut Scopes, row: Row<'_>, out: &mut Line) {
+    let name = row.bytes(1);
+    match row.field(0) {
+        "leave" => leave(scopes, out),
+        "get" => push_found(out, integer(scopes.get(name))),
+        "exchange" => exchange(scopes, name, row.integer(2), out),
+        "unset" => scopes.unset(name),
+        _ => grow(scopes, row, out),
     }
 }

@@ -5,16 +5,16 @@ ghost use Rattle.resin_heap.specs.Under.label.Sets.{empty as no_labels};
 ghost use Rattle.resin_heap.specs.Under.lstr.Texts.{carrying};
 ghost use Rattle.resin_stage.specs.Lines.{header_line};
 
-use crate::answer::Answer;
+use crate::answer::{push_behind_bar, push_bytes, push_count, push_missing, push_unknown};
 use crate::classes::is_name;
-use crate::command::Command;
 use crate::journals::ask;
-use crate::pages::header_lines;
+use crate::pages::push_header_lines;
 use itoa::Buffer;
 use resin_heap::under::bytes::Bytes;
 use resin_heap::under::lstr::LText;
 use resin_stage::Stage;
 use resin_stage::under::journal::Channel;
+use resin_table_rows::{Line, Row};
 use std::alloc::{AllocError, Global};
 use std::mem;
 
@@ -29,14 +29,19 @@ fn plain(alloc: Global, bytes: &[u8]) -> Result<LText, AllocError>
 }
 
 /// Sends a page, and tells the number of its write.
-fn send_page(alloc: Global, stage: &mut Stage, bytes: &[u8]) -> Result<Answer, AllocError> {
+fn send_page(
+    alloc: Global,
+    stage: &mut Stage,
+    bytes: &[u8],
+    out: &mut Line,
+) -> Result<(), AllocError> {
     let text = plain(alloc, bytes)?;
     match stage.draw() {
         Some(write) => {
-            stage.send_page(write, text)?;
-            Ok(Answer::Count(write))
+            push_count(out, write);
+            stage.send_page(write, text)
         }
-        None => Ok(Answer::Missing),
+        None => Ok(push_missing(out)),
     }
 }
 
@@ -46,14 +51,15 @@ fn send_mail(
     stage: &mut Stage,
     request: u64,
     bytes: &[u8],
-) -> Result<Answer, AllocError> {
+    out: &mut Line,
+) -> Result<(), AllocError> {
     let text = plain(alloc, bytes)?;
     match stage.draw() {
         Some(write) => {
-            stage.send_mail(alloc, request, write, text)?;
-            Ok(Answer::Count(write))
+            push_count(out, write);
+            stage.send_mail(alloc, request, write, text)
         }
-        None => Ok(Answer::Missing),
+        None => Ok(push_missing(out)),
     }
 }
 
@@ -64,39 +70,44 @@ fn send_line(
     line: &[u8],
     name: &[u8],
     value: &[u8],
-) -> Result<Answer, AllocError>
+    out: &mut Line,
+) -> Result<(), AllocError>
     requires { header_line line.now ≡ Some (record { name = name.now; value = value.now }) }
 {
     let text = plain(alloc, line)?;
     match stage.draw() {
-        Some(write) => {
-            stage.send_header(alloc, write, text, name, value, true)?;
-            Ok(Answer::Done)
-        }
-        None => Ok(Answer::Missing),
+        Some(write) => stage.send_header(alloc, write, text, name, value, true),
+        None => Ok(push_missing(out)),
     }
 }
 
 /// Sends one of these header lines.
-fn send_header(alloc: Global, stage: &mut Stage, line: &str) -> Result<Answer, AllocError> {
+fn send_header(
+    alloc: Global,
+    stage: &mut Stage,
+    line: &str,
+    out: &mut Line,
+) -> Result<(), AllocError> {
     match line {
-        "A: 1" => send_line(alloc, stage, b"A: 1", b"A", b"1"),
-        "Location:/b " => send_line(alloc, stage, b"Location:/b ", b"Location", b"/b"),
-        "a:2" => send_line(alloc, stage, b"a:2", b"a", b"2"),
-        _ => Ok(Answer::Unknown),
+        "A: 1" => send_line(alloc, stage, b"A: 1", b"A", b"1", out),
+        "Location:/b " => send_line(alloc, stage, b"Location:/b ", b"Location", b"/b", out),
+        "a:2" => send_line(alloc, stage, b"a:2", b"a", b"2", out),
+        _ => Ok(push_unknown(out)),
     }
 }
 
 /// Sends a status.
-fn send_status(alloc: Global, stage: &mut Stage, status: u16) -> Result<Answer, AllocError> {
+fn send_status(
+    alloc: Global,
+    stage: &mut Stage,
+    status: u16,
+    out: &mut Line,
+) -> Result<(), AllocError> {
     let mut buffer = Buffer::new();
     let text = plain(alloc, buffer.format(status).as_bytes())?;
     match stage.draw() {
-        Some(write) => {
-            stage.send_status(write, text, status)?;
-            Ok(Answer::Done)
-        }
-        None => Ok(Answer::Missing),
+        Some(write) => stage.send_status(write, text, status),
+        None => Ok(push_missing(out)),
     }
 }
 
@@ -107,17 +118,17 @@ fn deny_page(
     from: u64,
     to: u64,
     by: Bytes,
-) -> Result<Answer, AllocError>
+    out: &mut Line,
+) -> Result<(), AllocError>
     requires range { from < to }
     requires names { IsName class × IsName by }
 {
     match stage.draw() {
         Some(write) => {
             stage.passed(write, 1)?;
-            stage.denied(write, Channel::Http, 2, class, from, to, by)?;
-            Ok(Answer::Done)
+            stage.denied(write, Channel::Http, 2, class, from, to, by)
         }
-        None => Ok(Answer::Missing),
+        None => Ok(push_missing(out)),
     }
 }
 
@@ -128,15 +139,13 @@ fn deny_mail(
     class: Bytes,
     len: u64,
     by: Bytes,
-) -> Result<Answer, AllocError>
+    out: &mut Line,
+) -> Result<(), AllocError>
     requires { IsName class × IsName by }
 {
     match stage.draw() {
-        Some(write) => {
-            stage.filter_denied(write, Channel::Email, filter, class, len, by)?;
-            Ok(Answer::Done)
-        }
-        None => Ok(Answer::Missing),
+        Some(write) => stage.filter_denied(write, Channel::Email, filter, class, len, by),
+        None => Ok(push_missing(out)),
     }
 }
 
@@ -147,108 +156,110 @@ fn deny_file(
     class: Bytes,
     len: u64,
     by: Bytes,
-) -> Result<Answer, AllocError>
+) -> Result<(), AllocError>
     requires { IsName class × IsName by }
 {
-    stage.filter_denied_outside(Channel::File, filter, class, len, by)?;
-    Ok(Answer::Done)
+    stage.filter_denied_outside(Channel::File, filter, class, len, by)
 }
 
 fn deny_by(
     stage: &mut Stage,
     class: Bytes,
     by: Bytes,
-    command: Command<'_>,
-) -> Result<Answer, AllocError>
+    row: Row<'_>,
+    out: &mut Line,
+) -> Result<(), AllocError>
     requires { IsName class × IsName by }
 {
-    let (from, to) = (command.count(3), command.count(4));
-    match command.name() {
-        "deny_page" => {
-            if from < to {
-                deny_page(stage, class, from, to, by)
-            } else {
-                Ok(Answer::Unknown)
-            }
-        }
-        "deny_mail" => deny_mail(stage, command.number(3), class, to, by),
-        "deny_file" => deny_file(stage, command.number(3), class, to, by),
-        _ => Ok(Answer::Unknown),
+    let (from, to) = (row.count(3), row.count(4));
+    match row.field(0) {
+        "deny_page" if from < to => deny_page(stage, class, from, to, by, out),
+        "deny_mail" => deny_mail(stage, row.number(3), class, to, by, out),
+        "deny_file" => deny_file(stage, row.number(3), class, to, by),
+        _ => Ok(push_unknown(out)),
     }
 }
 
 /// `deny_page|CLASS|BY|FROM|TO`, `deny_mail|CLASS|BY|FILTER|LEN` and `deny_file|CLASS|BY|FILTER|LEN`
-fn deny(alloc: Global, stage: &mut Stage, command: Command<'_>) -> Result<Answer, AllocError> {
-    let (class, by) = (command.bytes(1), command.bytes(2));
+fn deny(stage: &mut Stage, row: Row<'_>, out: &mut Line) -> Result<(), AllocError> {
+    let (class, by) = (row.bytes(1), row.bytes(2));
     if is_name(class) && is_name(by) {
-        let class = Bytes::from_slice(alloc, class)?;
-        let by = Bytes::from_slice(alloc, by)?;
-        deny_by(stage, class, by, command)
+        let class = Bytes::from_slice(row.alloc, class)?;
+        let by = Bytes::from_slice(row.alloc, by)?;
+        deny_by(stage, class, by, row, out)
     } else {
-        Ok(Answer::Missing)
+        Ok(push_missing(out))
     }
 }
 
 /// Puts a text into the innermost buffer.
-fn buffer(alloc: Global, stage: &mut Stage, bytes: &[u8]) -> Result<Answer, AllocError> {
-    let text = plain(alloc, bytes)?;
+fn buffer(stage: &mut Stage, row: Row<'_>, out: &mut Line) -> Result<(), AllocError> {
+    let text = plain(row.alloc, row.bytes(1))?;
     if stage.open_buffers() == 0 {
-        return Ok(Answer::Missing);
+        return Ok(push_missing(out));
     }
-    match stage.buffer(alloc, &text) {
-        Ok(()) => Ok(Answer::Done),
+    match stage.buffer(row.alloc, &text) {
+        Ok(()) => Ok(()),
         Err(_) => Err(AllocError),
     }
 }
 
 /// Closes the innermost buffer, and tells its text.
-fn close(alloc: Global, stage: &mut Stage) -> Result<Answer, AllocError> {
+fn close(alloc: Global, stage: &mut Stage, out: &mut Line) -> Result<(), AllocError> {
     match stage.close_buffer() {
-        Some(text) => Answer::bytes(alloc, text.finish()?.bytes()),
-        None => Ok(Answer::Missing),
+        Some(text) => {
+            let text = text.finish()?;
+            push_bytes(alloc, out, text.bytes());
+        }
+        None => push_missing(out),
     }
+    Ok(())
 }
 
 /// Ends the request, and tells its status, its header lines, its body, its mail and how many events it had.
-fn finish(alloc: Global, stage: &mut Stage) -> Result<Answer, AllocError> {
+fn finish(alloc: Global, stage: &mut Stage, out: &mut Line) {
     let whole = mem::replace(stage, Stage::new(alloc));
     let (status, headers, body, mail, journal) = whole.into_parts();
-    let headers = header_lines(alloc, headers.as_slice())?;
-    let body = String::from_utf8_lossy(alloc, body.as_slice())?;
-    let mail = String::from_utf8_lossy(alloc, mail.as_slice())?;
-    let events = journal.as_slice().len();
-    let text = format!(in alloc; "{status} | {headers} | {body} | {mail} | {events}")?;
-    Answer::bytes(alloc, text.as_bytes())
+    out.tell(" = ", u64::from(status), " | ");
+    push_header_lines(out, headers.as_slice());
+    push_behind_bar(alloc, out, body.as_slice());
+    push_behind_bar(alloc, out, mail.as_slice());
+    out.tell(" | ", journal.as_slice().len() as u64, "");
 }
 
-fn send(alloc: Global, stage: &mut Stage, command: Command<'_>) -> Result<Answer, AllocError> {
-    match command.name() {
-        "page" => send_page(alloc, stage, command.bytes(1)),
+fn send(stage: &mut Stage, row: Row<'_>, out: &mut Line) -> Result<(), AllocError> {
+    let alloc = row.alloc;
+    match row.field(0) {
+        "page" => send_page(alloc, stage, row.bytes(1), out),
         "mail" => {
-            let text = command.text(alloc, 2)?;
-            send_mail(alloc, stage, command.count(1), text.as_bytes())
+            let text = row.field(2).replace(alloc, "\\n", "\n")?;
+            send_mail(alloc, stage, row.count(1), text.as_bytes(), out)
         }
-        "header" => send_header(alloc, stage, command.word(1)),
+        "header" => send_header(alloc, stage, row.field(1), out),
         "send_status" => {
-            let status = command.word(1).parse::<u16>().unwrap_or(0);
-            send_status(alloc, stage, status)
+            let status = row.field(1).parse::<u16>().unwrap_or(0);
+            send_status(alloc, stage, status, out)
         }
-        _ => deny(alloc, stage, command),
+        _ => deny(stage, row, out),
     }
 }
 
-pub fn act(alloc: Global, stage: &mut Stage, command: Command<'_>) -> Result<Answer, AllocError> {
-    match command.name() {
-        "status" => Ok(Answer::Count(u64::from(stage.status()))),
-        "events" | "line" => ask(alloc, stage.journal(), command),
-        "open" => {
-            stage.open_buffer(alloc)?;
-            Ok(Answer::Done)
-        }
-        "open_buffers" => Ok(Answer::Count(stage.open_buffers() as u64)),
-        "buffer" => buffer(alloc, stage, command.bytes(1)),
-        "close" => close(alloc, stage),
-        "finish" => finish(alloc, stage),
-        _ => send(alloc, stage, command),
+fn change(stage: &mut Stage, row: Row<'_>, out: &mut Line) {
+    let done = match row.field(0) {
+        "open" => stage.open_buffer(row.alloc),
+        "buffer" => buffer(stage, row, out),
+        "close" => close(row.alloc, stage, out),
+        _ => send(stage, row, out),
+    };
+    out.note(done);
+}
+
+pub fn act(stage: &mut Stage, row: Row<'_>, out: &mut Line) {
+    match row.field(0) {
+        "status" => push_count(out, u64::from(stage.status())),
+        "events" | "line" => ask(stage.journal(), row, out),
+        "open_buffers" => push_count(out, stage.open_buffers() as u64),
+        "finish" => finish(row.alloc, stage, out),
+        _ => change(stage, row, out),
     }
 }
