@@ -1,4 +1,5 @@
-use Rattle.std.proofs.Common.{sym, subst}
+use Rattle.std.proofs.Common.{map, sym, subst}
+use Rattle.std.specs.String.{string_bytes}
 use Rattle.resin_serve.specs.Whole_run.{given_of_status}
 use Rattle.resin_serve.specs.Audits.{CompletesAudit}
 use Rattle.resin_serve.specs.Headline.{Completes}
@@ -25,7 +26,7 @@ pub returns-in-Some-Run-clause-complete : goal.returns-in-Some-Run-clause-comple
 returns-in-Some-Run-clause-complete g c = λ logging fuel all f p good calm. c.serve_site.ensures.complete all p good calm
 
 pub show_sample-requires : goal.show_sample-requires
-show_sample-requires g c = sized_sample _ _ _ c.in-Some-Sample.ensures c.in-Some-Sample.field-0-is
+show_sample-requires g c = sized_sample (map string_bytes c.args.words.now) _ _ c.in-Some-Sample.ensures c.in-Some-Sample.field-0-is
 
 pub returns-in-Some-Sample-clause-run : goal.returns-in-Some-Sample-clause-run
 returns-in-Some-Sample-clause-run g c = λ logging fuel all f p. sample_alone _ _ _ _ _ c.in-Some-Sample.ensures c.in-Some-Sample.field-0-is f
