@@ -36,15 +36,15 @@ abbrev pub plain : List ℕ → Bool
 plain [] = true
 plain (k ∷ ks) = not (39 == k) && plain ks
 
-and_left : (a b : Bool) → (a && b) ≡ true → a ≡ true
+pub and_left : (a b : Bool) → (a && b) ≡ true → a ≡ true
 and_left true b e = refl
 and_left false b e = e
 
-and_right : (a b : Bool) → (a && b) ≡ true → b ≡ true
+pub and_right : (a b : Bool) → (a && b) ≡ true → b ≡ true
 and_right true b e = e
 and_right false b e = cc
 
-is_false : (b : Bool) → not b ≡ true → b ≡ false
+pub is_false : (b : Bool) → not b ≡ true → b ≡ false
 is_false true e = cc
 is_false false e = refl
 
@@ -57,7 +57,7 @@ pub word_follows : (ks : List ℕ) → plain ks ≡ true → Follows whole (w.wo
 unfolding w.word
 word_follows ks h = and_then (letters_follow ks h) (λ a. gap_follows)
 
-and_false : (a b : Bool) → a ≡ false → (a && b) ≡ false
+pub and_false : (a b : Bool) → a ≡ false → (a && b) ≡ false
 and_false true b e = cc
 and_false false b e = refl
 
@@ -183,7 +183,7 @@ unfolding t.text
 text_spelt from n x r h = (Some (closes_at n (doubled x)), placed (suc (closes_at n (doubled x))) r, quoted_spelt n x r h, (refl, refl))
 
 -- what a text that is read comes to
-text_is : (from n : ℕ) (x r : List ℕ) (v : Literal) (rest : List Placed) → NotBefore (λ b. b == 39) r → Spells (t.text from) (placed n (doubled x ++ 39 ∷ r)) v rest
+pub text_is : (from n : ℕ) (x r : List ℕ) (v : Literal) (rest : List Placed) → NotBefore (λ b. b == 39) r → Spells (t.text from) (placed n (doubled x ++ 39 ∷ r)) v rest
     → (v ≡ l.Text (record { from = from; to = closes_at n (doubled x) })) × (rest ≡ placed (suc (closes_at n (doubled x))) r)
 unfolding t.text
 text_is from n x r v rest h s =

@@ -2,8 +2,8 @@ pub mod Exits
 pub mod Endings
 pub mod Firsts
 pub mod Verdicts
-pub mod Steps
-pub mod Conditions
+pub mod Judging
+pub mod Free
 pub mod Queries
 pub mod Runs
 pub mod Found
@@ -13,3 +13,5 @@ pub mod Follows
 pub mod FollowWords
 pub mod FollowConditions
 pub mod FollowStatements
+pub mod Tells
+pub mod TellStatements

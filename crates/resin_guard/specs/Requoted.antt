@@ -1,9 +1,11 @@
 -- Queries with other texts between their quotes, and statements but for what their text literals hold.
-use Rattle.std.specs.Prelude.{◌≡◌, ℕ, false, ◌==◌, List, [], ◌∷◌, ◌++◌, map, Option, Some, None, if◌then◌else◌}
+use Rattle.std.specs.Prelude.{◌≡◌, ℕ, suc, ◌+◌, false, ◌==◌, List, [], ◌∷◌, ◌++◌, length, map, Option, Some, None, if◌then◌else◌}
+use Rattle.std.specs.List.{flat_map}
 use Rattle.resin_scan.specs.Lists.{NotBefore}
 use Rattle.resin_sql_words.specs.declared.literals.Literal.{Literal}
 use Rattle.resin_sql_words.specs.declared.literals.Literal.TheVariants as l
 use Rattle.resin_sql_words.specs.declared.literals.Span.{Span}
+use Rattle.resin_sql.specs.Literals.{literals}
 use Rattle.resin_sql.specs.declared.tree.Change.{Change}
 use Rattle.resin_sql.specs.declared.tree.Condition.{Condition, Condition-F, fold-Condition}
 use Rattle.resin_sql.specs.declared.tree.Condition.TheVariants as c
@@ -11,6 +13,7 @@ use Rattle.resin_sql.specs.declared.tree.Stmt.{Stmt}
 use Rattle.resin_sql.specs.declared.tree.Stmt.TheVariants as s
 use Rattle.resin_sql.specs.declared.tree.Test.{Test}
 use Rattle.resin_sql.specs.declared.tree.Test.TheVariants as t
+use Rattle.resin_guard.specs.Pages.{Places}
 
 -- bytes with every quote doubled
 abbrev pub doubled : List ℕ → List ℕ
@@ -23,6 +26,22 @@ pub data Requoted : List ℕ → List ℕ → Type 0 where
   same : {b : ℕ} {r s : List ℕ} → (b == 39) ≡ false → Requoted r s → Requoted (b ∷ r) (b ∷ s)
   other : (w v : List ℕ) {r s bs cs : List ℕ} → bs ≡ doubled w ++ 39 ∷ r → cs ≡ doubled v ++ 39 ∷ s → NotBefore (λ b. b == 39) r
       → Requoted r s → Requoted (39 ∷ bs) (39 ∷ cs)
+
+-- where the bytes between its quotes stand, in the first text, which begins at the offset n
+abbrev pub stretches : ℕ → {bs cs : List ℕ} → Requoted bs cs → Places
+stretches n done = []
+stretches n (same ne q) = stretches (suc n) q
+stretches n (other w v e f z q) = (suc n, suc n + length (doubled w)) ∷ stretches (suc (suc n + length (doubled w))) q
+
+-- where a text literal stands, without its quotes
+abbrev pub of_text : Literal → Places
+of_text l.Null = []
+of_text (l.Integer value span) = []
+of_text (l.Text span) = (span.from, span.to) ∷ []
+
+-- what other texts take the place of in a statement are its text literals, and no more
+abbrev pub RequotesTexts : (List ℕ → Stmt → Type 0) → Type 0
+RequotesTexts IsStatement = (bytes others : List ℕ) (q : Stmt) → IsStatement bytes q → (r : Requoted bytes others) → stretches 0 r ≡ flat_map of_text (literals q)
 
 -- ---- a statement without what its text literals hold, and without where its literals stand
 
