@@ -134,7 +134,7 @@ fn columns_of(alloc: Global, words: &str) -> Result<Columns, AllocError> {
 }
 
 /// A table without rows.
-fn held(alloc: Global, name: &[u8], columns: Columns) -> Result<Held, AllocError> {
+fn new_table(alloc: Global, name: &[u8], columns: Columns) -> Result<Held, AllocError> {
     let name = Bytes::from_slice(alloc, name)?;
     Ok(Held {
         name,
@@ -244,7 +244,7 @@ impl Board {
         let (name, words) = cut(field, ' ');
         let columns = columns_of(self.alloc, words)?;
         self.tables
-            .push(held(self.alloc, name.as_bytes(), columns)?)?;
+            .push(new_table(self.alloc, name.as_bytes(), columns)?)?;
         Ok(())
     }
 
@@ -303,7 +303,7 @@ impl Board {
 
     fn add_table(&mut self, name: &[u8], columns: &Columns) -> Result<(), AllocError> {
         let columns = copied_columns(self.alloc, columns.as_slice())?;
-        self.tables.push(held(self.alloc, name, columns)?)?;
+        self.tables.push(new_table(self.alloc, name, columns)?)?;
         Ok(())
     }
 
