@@ -2,24 +2,24 @@
 use Rattle.std.proofs.Common.{◌≡◌, ℕ, suc, ℤ, ◌<◌, List, [], ◌∷◌, length, Bool, true, false, cond, Some, None, Result, Ok, refl, sym, ap, subst, ◌∙◌, arith, ◌≤◌, drop, take, get_or, ◌-◌}
 use Rattle.std.proofs.lemmas.List.{take_all}
 use Rattle.std.specs.Prelude.{pos, negsuc, decimal, nat_le, ◌&&◌}
-use Rattle.resin_eval_writes.specs.Under.label.Sets.{NumberSet}
-use Rattle.resin_eval_writes.specs.Under.lstr.Texts.{Text as LabelledText, carrying, bytes_of}
-use Rattle.resin_eval_writes.specs.Under.scalar.declared.faults.CallStop.{CallStop}
-use Rattle.resin_eval_writes.specs.Under.value.declared.value.Value.{Value}
-use Rattle.resin_eval_writes.specs.Under.value.declared.value.Value.TheVariants.{Null, Bool as Truth, Int, Text, Arr, Obj}
-use Rattle.resin_eval_writes.specs.Under.value.Trees.{Tree, null, boolean, integer, text, array, object}
-use Rattle.resin_eval_writes.specs.Under.value.Seen.{tree_of}
-use Rattle.resin_eval_writes.specs.Under.meaning_forms.Parts.{Evals}
+use Rattle.resin_eval_queries.specs.Under.label.Sets.{NumberSet}
+use Rattle.resin_eval_queries.specs.Under.lstr.Texts.{Text as LabelledText, carrying, bytes_of}
+use Rattle.resin_eval_queries.specs.Under.scalar.declared.faults.CallStop.{CallStop}
+use Rattle.resin_eval_queries.specs.Under.value.declared.value.Value.{Value}
+use Rattle.resin_eval_queries.specs.Under.value.declared.value.Value.TheVariants.{Null, Bool as Truth, Int, Text, Arr, Obj}
+use Rattle.resin_eval_queries.specs.Under.value.Trees.{Tree, null, boolean, integer, text, array, object}
+use Rattle.resin_eval_queries.specs.Under.value.Seen.{tree_of}
+use Rattle.resin_eval_queries.specs.Under.meaning_forms.Parts.{Evals}
 use Rattle.std.specs.Fmt.{signed_decimal}
-use Rattle.resin_eval_writes.specs.Under.ops.Conversions.{text_of}
-use Rattle.resin_eval_writes.specs.Under.meaning_forms.Channels.{channel_work, status_in, status_of, unbuilt}
-use Rattle.resin_eval_writes.specs.Under.meaning_forms.declared.callee.ChannelFunction.TheVariants.{FileExists, FileGetContents, FilePutContents, Header, Mail, Unlink}
-use Rattle.resin_eval_writes.proofs.eval_nested_lemmas.Arguments.{IsNoText}
-use Rattle.resin_eval_writes.specs.Under.machine.State.{State}
-use Rattle.resin_eval_writes.specs.Under.machine.Objects.{settled}
-use Rattle.resin_eval_writes.specs.Under.machine.declared.stop.Stop.{Stop}
-use Rattle.resin_eval_writes.specs.Under.scalar.Stops.{Gives}
-use Rattle.resin_eval_writes.proofs.step_parts_lemmas.Answered.{settled_value}
+use Rattle.resin_eval_queries.specs.Under.ops.Conversions.{text_of}
+use Rattle.resin_eval_queries.specs.Under.meaning_forms.Channels.{channel_work, status_in, status_of, unbuilt}
+use Rattle.resin_eval_queries.specs.Under.meaning_forms.declared.callee.ChannelFunction.TheVariants.{FileExists, FileGetContents, FilePutContents, Header, Mail, Unlink}
+use Rattle.resin_eval_queries.proofs.eval_nested_lemmas.Arguments.{IsNoText}
+use Rattle.resin_eval_queries.specs.Under.machine.State.{State}
+use Rattle.resin_eval_queries.specs.Under.machine.Objects.{settled}
+use Rattle.resin_eval_queries.specs.Under.machine.declared.stop.Stop.{Stop}
+use Rattle.resin_eval_queries.specs.Under.scalar.Stops.{Gives}
+use Rattle.resin_eval_queries.proofs.step_parts_lemmas.Answered.{settled_value}
 
 -- ---- a line, an address, a subject or a message that is no text, and further or missing arguments
 

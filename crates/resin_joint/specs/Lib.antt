@@ -2,3 +2,5 @@ pub mod Joins
 pub mod Totals
 pub mod Joint
 pub mod Answers
+pub mod Reading
+pub mod Literals

@@ -14,11 +14,13 @@
 #![tactic(auto)]
 
 mod joins;
+mod literals;
 mod read;
 mod selects;
 mod totals;
 mod tree;
 
 pub use joins::table_of;
+pub use literals::literals;
 pub use read::read_more;
 pub use tree::{JoinStmt, MoreStmt, TotalItem, TotalStmt};

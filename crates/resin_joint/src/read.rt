@@ -5,6 +5,7 @@ ghost use Rattle.resin_lstr.specs.Texts.{bytes_of};
 ghost use Rattle.resin_sql.specs.Places.{refusal};
 ghost use Rattle.resin_sql.specs.declared.fault.SqlFault.TheVariants.{Memory};
 ghost use Rattle.resin_joint.specs.Answers.{AnswersMore, IsMore, before_dot, start};
+ghost use Rattle.resin_joint.specs.Reading.{read_as};
 ghost use Rattle.resin_joint.specs.declared.tree.MoreStmt.{MoreStmt};
 
 use crate::selects::joint;
@@ -66,6 +67,7 @@ fn read_bytes(alloc: Global, text: &[u8]) -> Result<MoreStmt, SqlFault>
 /// their first byte, before any later fault, and so is the second column of ON where it is on the first's side of a join of two
 /// tables.
 pub fn read_more(alloc: Global, text: &LText) -> Result<MoreStmt, SqlFault>
+    ensures reading { (result ≡ read_as (bytes_of text.now)) ⊎ (result ≡ Err Memory) }
     ensures answers { AnswersMore (bytes_of text.now) result }
     ensures found { (q : MoreStmt) → IsMore (bytes_of text.now) q → (result ≡ Ok q) ⊎ (result ≡ Err Memory) }
 {

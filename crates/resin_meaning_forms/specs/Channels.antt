@@ -1,5 +1,5 @@
--- Functions of channels: output buffers, headers, the status, mail and files (PHP manual, "Output Control", "header", "http_response_code", "mail";
--- files stand in Files.antt).
+-- Functions of channels: output buffers, headers, the status, mail, files and tables (PHP manual, "Output Control", "header", "http_response_code", "mail";
+-- files stand in Files.antt, tables in Queries.antt).
 use Rattle.std.specs.Prelude.{ℕ, ℤ, pos, negsuc, ◌==◌, ◌||◌, ◌&&◌, not, nat_le, List, [], ◌∷◌, ◌++◌, length, Bool, true, false, if◌then◌else◌, Option, None, Some, codes}
 use Rattle.std.specs.List.{list_any}
 use Rattle.resin_builtin.specs.Under.label.Sets.{empty as no_labels}
@@ -27,6 +27,7 @@ use Rattle.resin_meaning_forms.specs.Parts.{Evals, computed, faulted, thrown_new
 use Rattle.resin_meaning_forms.specs.Writes.{plain, context_of, leave, write_page}
 use Rattle.resin_meaning_forms.specs.Functions.{counted, arguments_of}
 use Rattle.resin_meaning_forms.specs.Files.{flags_in, get_contents, put_contents, unlink, exists}
+use Rattle.resin_meaning_forms.specs.Queries.{sql_query}
 
 -- ---- buffers
 
@@ -126,6 +127,7 @@ channel_work ev FilePutContents (text path ∷ text t ∷ ts) = put_contents ev 
 channel_work ev FileGetContents (text path ∷ ts) = get_contents ev (bytes_of path)
 channel_work ev Unlink (text path ∷ ts) = unlink (bytes_of path)
 channel_work ev FileExists (text path ∷ ts) = exists (bytes_of path)
+channel_work ev SqlQuery (text query ∷ ts) = sql_query ev query
 channel_work ev f ts = unbuilt
 
 -- files may be read in a check

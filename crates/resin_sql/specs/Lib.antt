@@ -3,3 +3,5 @@ pub mod Statements
 pub mod Answers
 pub mod Places
 pub mod Labels
+pub mod Literals
+pub mod Messages

@@ -20,6 +20,7 @@ mod condition;
 mod fault;
 mod labels;
 mod lists;
+mod literals;
 mod read;
 mod statement;
 mod tree;
@@ -28,6 +29,7 @@ mod tree;
 pub mod parts {
     pub use crate::condition::{Naming, column_of, with_table};
     pub use crate::lists::{is_comma, more_names};
+    pub use crate::literals::{put_literals, put_where};
     pub use crate::read::last_start;
     pub use crate::statement::{
         begins_statement, begun_by, chosen, ending, limit, ordering, source,

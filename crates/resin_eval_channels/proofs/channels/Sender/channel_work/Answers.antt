@@ -1,11 +1,11 @@
-use Rattle.resin_eval_writes.specs.Under.meaning_forms.Channels.{channel_work}
-use Rattle.resin_eval_writes.specs.Under.meaning_forms.Programs.{evals}
-use Rattle.resin_eval_writes.specs.Under.meaning_forms.declared.callee.ChannelFunction.{ChannelFunction}
-use Rattle.resin_eval_writes.proofs.eval_nested_lemmas.Arms.{does_given}
-use Rattle.resin_eval_writes.proofs.eval_nested_lemmas.Exits.{does_is, does_seen_exit}
+use Rattle.resin_eval_queries.specs.Under.meaning_forms.Channels.{channel_work}
+use Rattle.resin_eval_queries.specs.Under.meaning_forms.Programs.{evals}
+use Rattle.resin_eval_queries.specs.Under.meaning_forms.declared.callee.ChannelFunction.{ChannelFunction}
+use Rattle.resin_eval_queries.proofs.eval_nested_lemmas.Arms.{does_given}
+use Rattle.resin_eval_queries.proofs.eval_nested_lemmas.Exits.{does_is, does_seen_exit}
 use Rattle.resin_eval_channels.proofs.Unbuilt.{does_unbuilt}
-use Rattle.resin_eval_writes.proofs.meaning_lemmas.Composition.{does_act, does_give, does_loosely, does_next}
-use Rattle.resin_eval_writes.specs.Under.value.Seen.{trees_of}
+use Rattle.resin_eval_queries.proofs.meaning_lemmas.Composition.{does_act, does_give, does_loosely, does_next}
+use Rattle.resin_eval_queries.specs.Under.value.Seen.{trees_of}
 use Rattle.std.proofs.Common.{ap}
 use Rattle.resin_eval_channels.proofs.channels.Sender.channel_work.Goals as goal
 

@@ -1,12 +1,12 @@
-use Rattle.resin_eval_writes.specs.Under.meaning_forms.Channels.{channel_work}
-use Rattle.resin_eval_writes.specs.Under.meaning_forms.Programs.{evals}
-use Rattle.resin_eval_writes.specs.Under.meaning_forms.declared.callee.ChannelFunction.TheVariants.{FileExists}
-use Rattle.resin_eval_writes.proofs.eval_nested_lemmas.Arguments.{empty_list, opened}
-use Rattle.resin_eval_writes.proofs.eval_nested_lemmas.Exits.{does_is}
+use Rattle.resin_eval_queries.specs.Under.meaning_forms.Channels.{channel_work}
+use Rattle.resin_eval_queries.specs.Under.meaning_forms.Programs.{evals}
+use Rattle.resin_eval_queries.specs.Under.meaning_forms.declared.callee.ChannelFunction.TheVariants.{FileExists}
+use Rattle.resin_eval_queries.proofs.eval_nested_lemmas.Arguments.{empty_list, opened}
+use Rattle.resin_eval_queries.proofs.eval_nested_lemmas.Exits.{does_is}
 use Rattle.resin_eval_channels.proofs.Unbuilt.{does_unbuilt}
 use Rattle.resin_eval_channels.proofs.Values.{no_exists}
-use Rattle.resin_eval_writes.specs.Under.value.Seen.{trees_of}
-use Rattle.resin_eval_writes.specs.Under.value.declared.value.Value.{Value}
+use Rattle.resin_eval_queries.specs.Under.value.Seen.{trees_of}
+use Rattle.resin_eval_queries.specs.Under.value.declared.value.Value.{Value}
 use Rattle.std.proofs.Common.{List, ap, ◌∙◌}
 use Rattle.resin_eval_channels.proofs.channels.Sender.exists_work.Goals as goal
 

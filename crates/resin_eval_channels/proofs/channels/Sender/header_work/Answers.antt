@@ -1,16 +1,16 @@
-use Rattle.resin_eval_writes.specs.Under.value.declared.value.Value.TheVariants.{Arr}
-use Rattle.resin_eval_writes.specs.Under.meaning_forms.declared.outgoing.Outgoing.TheVariants.{Header as HeaderLine}
-use Rattle.resin_eval_writes.specs.Under.meaning_forms.Writes.{leave}
-use Rattle.resin_eval_writes.specs.Under.meaning_forms.Channels.{channel_work}
-use Rattle.resin_eval_writes.specs.Under.meaning_forms.Programs.{evals}
-use Rattle.resin_eval_writes.specs.Under.meaning_forms.declared.callee.ChannelFunction.TheVariants.{Header}
+use Rattle.resin_eval_queries.specs.Under.value.declared.value.Value.TheVariants.{Arr}
+use Rattle.resin_eval_queries.specs.Under.meaning_forms.declared.outgoing.Outgoing.TheVariants.{Header as HeaderLine}
+use Rattle.resin_eval_queries.specs.Under.meaning_forms.Writes.{leave}
+use Rattle.resin_eval_queries.specs.Under.meaning_forms.Channels.{channel_work}
+use Rattle.resin_eval_queries.specs.Under.meaning_forms.Programs.{evals}
+use Rattle.resin_eval_queries.specs.Under.meaning_forms.declared.callee.ChannelFunction.TheVariants.{Header}
 use Rattle.resin_eval_channels.proofs.Values.{no_header_line}
-use Rattle.resin_eval_writes.proofs.eval_nested_lemmas.Arguments.{empty_list, opened_rest}
-use Rattle.resin_eval_writes.proofs.eval_nested_lemmas.Exits.{does_is, does_seen_exit, does_seen_unbegun}
+use Rattle.resin_eval_queries.proofs.eval_nested_lemmas.Arguments.{empty_list, opened_rest}
+use Rattle.resin_eval_queries.proofs.eval_nested_lemmas.Exits.{does_is, does_seen_exit, does_seen_unbegun}
 use Rattle.resin_eval_channels.proofs.Unbuilt.{does_unbuilt}
-use Rattle.resin_eval_writes.proofs.meaning_lemmas.Composition.{does_give, does_next}
-use Rattle.resin_eval_writes.specs.Under.value.Seen.{trees_of}
-use Rattle.resin_eval_writes.specs.Under.value.declared.value.Value.{Value}
+use Rattle.resin_eval_queries.proofs.meaning_lemmas.Composition.{does_give, does_next}
+use Rattle.resin_eval_queries.specs.Under.value.Seen.{trees_of}
+use Rattle.resin_eval_queries.specs.Under.value.declared.value.Value.{Value}
 use Rattle.std.proofs.Common.{List, ap, sym, ◌∙◌}
 use Rattle.resin_eval_channels.proofs.channels.Sender.header_work.Goals as goal
 

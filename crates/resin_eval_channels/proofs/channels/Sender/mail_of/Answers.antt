@@ -1,8 +1,8 @@
 use Rattle.std.proofs.Common.{[]}
-use Rattle.resin_eval_writes.specs.Under.value.Seen.{tree_of}
-use Rattle.resin_eval_writes.specs.Under.meaning_forms.Programs.{evals}
+use Rattle.resin_eval_queries.specs.Under.value.Seen.{tree_of}
+use Rattle.resin_eval_queries.specs.Under.meaning_forms.Programs.{evals}
 use Rattle.resin_eval_channels.proofs.Values.{no_address, no_message, no_subject}
-use Rattle.resin_eval_writes.proofs.eval_nested_lemmas.Exits.{does_is}
+use Rattle.resin_eval_queries.proofs.eval_nested_lemmas.Exits.{does_is}
 use Rattle.resin_eval_channels.proofs.Unbuilt.{does_unbuilt}
 use Rattle.resin_eval_channels.proofs.channels.Sender.mail_of.Goals as goal
 

@@ -1,13 +1,13 @@
 use mir.Val.{SFits}
-use Rattle.resin_eval_writes.specs.Under.meaning_forms.Channels.{channel_work}
-use Rattle.resin_eval_writes.specs.Under.meaning_forms.Files.{put_contents}
-use Rattle.resin_eval_writes.specs.Under.meaning_forms.Programs.{evals}
-use Rattle.resin_eval_writes.specs.Under.meaning_forms.declared.callee.ChannelFunction.TheVariants.{FilePutContents}
-use Rattle.resin_eval_writes.proofs.eval_nested_lemmas.Exits.{does_is}
+use Rattle.resin_eval_queries.specs.Under.meaning_forms.Channels.{channel_work}
+use Rattle.resin_eval_queries.specs.Under.meaning_forms.Files.{put_contents}
+use Rattle.resin_eval_queries.specs.Under.meaning_forms.Programs.{evals}
+use Rattle.resin_eval_queries.specs.Under.meaning_forms.declared.callee.ChannelFunction.TheVariants.{FilePutContents}
+use Rattle.resin_eval_queries.proofs.eval_nested_lemmas.Exits.{does_is}
 use Rattle.resin_eval_channels.proofs.Unbuilt.{does_unbuilt}
 use Rattle.resin_eval_channels.proofs.Values.{no_put_data, no_put_path, no_short_put, opened_twice}
-use Rattle.resin_eval_writes.specs.Under.value.Seen.{trees_of}
-use Rattle.resin_eval_writes.specs.Under.value.declared.value.Value.{Value}
+use Rattle.resin_eval_queries.specs.Under.value.Seen.{trees_of}
+use Rattle.resin_eval_queries.specs.Under.value.declared.value.Value.{Value}
 use Rattle.std.proofs.Common.{List, ap, drop, length, rules, sym, take, w64, ◌-◌, ◌∙◌}
 use Rattle.std.proofs.lemmas.Int.{to_z-of_z}
 use Rattle.std.proofs.lemmas.List.{length-map}
