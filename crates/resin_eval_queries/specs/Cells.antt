@@ -4,7 +4,7 @@ use Rattle.resin_eval_writes.specs.Under.base.declared.cell.Cell.{Cell}
 use Rattle.resin_eval_writes.specs.Under.base.declared.cell.Cell.TheVariants as cell
 use Rattle.resin_eval_writes.specs.Under.base.declared.files.Entry.{Entry}
 use Rattle.resin_eval_writes.specs.Under.base.declared.stored.StoredCell.{StoredCell}
-use Rattle.resin_eval_writes.specs.Under.lstr.Texts.{LONGEST}
+use Rattle.resin_eval_writes.specs.Under.lstr.declared.limits.TheConstants.{LONGEST}
 use Rattle.resin_eval_writes.specs.Under.meaning_forms.Cells.{damaged_entry, entry_for}
 use Rattle.resin_eval_writes.specs.Under.scalar.declared.faults.ScriptFault.{ScriptFault}
 use Rattle.resin_eval_writes.specs.Under.scalar.declared.faults.ScriptFault.TheVariants.{BadShadow, TextTooLong}

@@ -19,7 +19,7 @@ use resin_eval_writes::under::eval_nested::nested::{Evaluator, Nested, Outcome};
 use resin_eval_writes::under::eval_nested::run::Run;
 use resin_eval_writes::under::journal::Channel;
 use resin_eval_writes::under::label::PSet;
-use resin_eval_writes::under::lstr::{LText, MAX_LEN};
+use resin_eval_writes::under::lstr::{LONGEST, LText};
 use resin_eval_writes::under::machine::{Machine, Stop};
 use resin_eval_writes::under::scalar::ScriptFault;
 use resin_eval_writes::under::step_parts::reads::plain;
@@ -74,7 +74,7 @@ fn damage(value: &Cell) -> ScriptFault
     ensures { result ≡ damage value.now }
 {
     match value {
-        Cell::Text(bytes) if bytes.as_slice().len() > MAX_LEN => ScriptFault::TextTooLong,
+        Cell::Text(bytes) if bytes.as_slice().len() > LONGEST => ScriptFault::TextTooLong,
         _ => ScriptFault::BadShadow,
     }
 }
@@ -93,7 +93,7 @@ fn thaw_cell(alloc: Global, m: &mut Machine, cell: &StoredCell) -> Result<LText,
 fn entry_marks(alloc: Global, m: &Machine, entry: &Entry) -> Result<FrozenRuns, Stop>
     ensures { Runs (whole_marks (lift entry.now)) m.now result m.now }
 {
-    if entry.bytes.as_slice().len() > MAX_LEN {
+    if entry.bytes.as_slice().len() > LONGEST {
         return Err(m.fault(ScriptFault::TextTooLong));
     }
     match policies_of(alloc, entry)? {

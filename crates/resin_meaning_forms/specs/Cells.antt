@@ -2,7 +2,8 @@
 -- project's own).
 use Rattle.std.specs.Prelude.{ℕ, nat_lt, List, [], ◌∷◌, ◌++◌, length, map, codes, if◌then◌else◌}
 use Rattle.resin_builtin.specs.Under.label.Sets.{NumberSet, empty as no_labels}
-use Rattle.resin_builtin.specs.Under.lstr.Texts.{Text as LabelledText, LONGEST, bytes_of, carrying}
+use Rattle.resin_builtin.specs.Under.lstr.declared.limits.TheConstants.{LONGEST}
+use Rattle.resin_builtin.specs.Under.lstr.Texts.{Text as LabelledText, bytes_of, carrying}
 use Rattle.resin_builtin.specs.Under.scalar.declared.faults.ScriptFault.TheVariants.{BadShadow, TextTooLong}
 use Rattle.resin_builtin.specs.Under.value.Changes.{put, empty}
 use Rattle.resin_builtin.specs.Under.value.Trees.{Tree, null, integer, text}
