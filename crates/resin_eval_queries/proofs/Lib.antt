@@ -1,3 +1,4 @@
+pub mod Carried
 -- Passed on to the crates above, which list this one alone.
 pub use Rattle.resin_eval_writes.proofs.eval_nested_lemmas
 pub use Rattle.resin_eval_writes.proofs.meaning_lemmas

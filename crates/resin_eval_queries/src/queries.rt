@@ -5,8 +5,8 @@ ghost use Rattle.resin_eval_writes.specs.Under.lstr.Texts.{bytes_of};
 ghost use Rattle.resin_eval_writes.specs.Under.meaning_forms.Queries.{answered, executed, joined, more_answered, refused, result_value, run_read, sql_query, totalled};
 ghost use Rattle.resin_eval_writes.specs.Under.meaning_forms.Runs.{Runs, on_ok};
 ghost use Rattle.resin_eval_writes.specs.Under.value.Seen.{tree_of};
-ghost use Rattle.resin_sql_more.specs.Under.joint.Reading.{read_as};
-ghost use Rattle.resin_sql_more.specs.Under.sql.Messages.{message, syntax_at};
+ghost use Rattle.resin_sql_more.specs.Under.joint.Readings.{read_more_as};
+ghost use Rattle.resin_sql_more.specs.Under.sql.Messages.{message};
 ghost use Rattle.resin_eval_writes.specs.Under.label.Sets.{empty as no_labels};
 ghost use Rattle.resin_eval_writes.specs.Under.value.Trees.{integer};
 ghost use Rattle.std.specs.Prelude.{IfOk, Ok, pos, ◌≡◌};
@@ -15,11 +15,9 @@ use crate::literals::LiteralKeeper;
 use crate::plans::{carry_out, carry_out_join, carry_out_total};
 use crate::rows::RowReader;
 use crate::totals::Totaller;
-use itoa::Buffer;
 use resin_eval_writes::leaving::context_of;
 use resin_eval_writes::reading::Reader;
 use resin_eval_writes::under::base::{Files, Stored, Tables};
-use resin_eval_writes::under::bytes::Bytes;
 use resin_eval_writes::under::eval_nested::nested::{Evaluator, Nested, Outcome};
 use resin_eval_writes::under::eval_nested::run::Run;
 use resin_eval_writes::under::heap::PreludeClass;
@@ -28,24 +26,14 @@ use resin_eval_writes::under::lstr::LText;
 use resin_eval_writes::under::machine::{Machine, Stop};
 use resin_eval_writes::under::step_parts::reads::number;
 use resin_eval_writes::under::value::Value;
-use resin_sql_more::under::joint::literals;
+use resin_sql_more::under::joint::more_literals;
 use resin_sql_more::under::plan::{SqlAnswer, SqlResult};
-use resin_sql_more::under::sql::{SqlFault, SqlRefusal};
+use resin_sql_more::under::sql::{SqlFault, SqlRefusal, syntax_message};
 use resin_sql_more::{MoreAnswer, MoreStmt, TotalItem, read_more};
 use std::alloc::{AllocError, Global};
 
 /// The largest integer.
 const MOST: u64 = 9_223_372_036_854_775_807;
-
-// What is told of a text that is no statement.
-fn syntax_at(alloc: Global, place: u64) -> Result<Bytes, AllocError>
-    ensures { IfOk result (λ t. t ≡ syntax_at place) }
-{
-    let mut buffer = Buffer::new();
-    let mut text = Bytes::from_slice(alloc, b"syntax at ")?;
-    text.push_slice(buffer.format(place).as_bytes())?;
-    Ok(text)
-}
 
 // A refusal is an exception with its message.
 fn refuse<A>(m: &mut Machine, refusal: SqlRefusal) -> Result<A, Stop>
@@ -180,7 +168,7 @@ impl<
         requires { Nests F.Files T.Tables N.pre N.post self.now.by.now }
         ensures { Performs F.Files T.Tables (run_read (means self.now.by.now) text.now (Ok statement.now)) run.old (on_ok tree_of result) run.new }
     {
-        let literals = literals(self.by.alloc, statement)?;
+        let literals = more_literals(self.by.alloc, statement)?;
         let cells = LiteralKeeper { by: self.by }.literals(run, text, literals.as_slice())?;
         self.execute(run, statement, &cells)
     }
@@ -188,12 +176,12 @@ impl<
     // What a text is read as is run; a text that is no statement is refused.
     fn run_text(&self, run: &mut Run<F, T>, text: &LText) -> Result<Value, Stop>
         requires { Nests F.Files T.Tables N.pre N.post self.now.by.now }
-        ensures { Performs F.Files T.Tables (run_read (means self.now.by.now) text.now (read_as (bytes_of text.now))) run.old (on_ok tree_of result) run.new }
+        ensures { Performs F.Files T.Tables (run_read (means self.now.by.now) text.now (read_more_as (bytes_of text.now))) run.old (on_ok tree_of result) run.new }
     {
         match read_more(self.by.alloc, text) {
             Ok(statement) => self.run_statement(run, text, &statement),
             Err(SqlFault::Bad { offset }) => {
-                let message = syntax_at(self.by.alloc, offset)?;
+                let message = syntax_message(self.by.alloc, offset)?;
                 run.machine.throw(PreludeClass::SqlException, message.as_slice())
             }
             Err(SqlFault::Memory) => Err(Stop::Memory),

@@ -2,5 +2,4 @@ pub mod Joins
 pub mod Totals
 pub mod Joint
 pub mod Answers
-pub mod Reading
-pub mod Literals
+pub mod Readings

@@ -20,8 +20,7 @@ use Rattle.resin_sql_more.specs.Plans.{End, Answers, Refuses, Costs}
 use Rattle.resin_sql_more.specs.Plans.{Plan as MorePlan}
 use Rattle.resin_sql_more.specs.Totals.{first_items, total_plan}
 use Rattle.resin_sql_more.specs.declared.answer.MoreAnswer.{MoreAnswer}
-use Rattle.resin_sql_more.specs.Under.joint.Literals.{literals}
-use Rattle.resin_sql_more.specs.Under.joint.Reading.{read_as}
+use Rattle.resin_sql_more.specs.Under.joint.Readings.{read_more_as, more_literals}
 use Rattle.resin_sql_more.specs.Under.joint.declared.tree.MoreStmt.{MoreStmt}
 use Rattle.resin_sql_more.specs.Under.joint.declared.tree.MoreStmt.TheVariants.{Plain, Join, Total}
 use Rattle.resin_sql_more.specs.Under.joint.declared.tree.JoinStmt.{JoinStmt}
@@ -31,7 +30,7 @@ use Rattle.resin_sql_more.specs.Under.plan.Statements.{plan}
 use Rattle.resin_sql_more.specs.Under.plan.declared.answer.SqlAnswer.{SqlAnswer}
 use Rattle.resin_sql_more.specs.Under.plan.declared.answer.SqlResult.{SqlResult}
 use Rattle.resin_sql_more.specs.Under.plan.declared.answer.SqlResult.TheVariants.{Count, Rows}
-use Rattle.resin_sql_more.specs.Under.sql.Messages.{message, syntax_at}
+use Rattle.resin_sql_more.specs.Under.sql.Messages.{message, syntax_message}
 use Rattle.resin_sql_more.specs.Under.sql.declared.fault.SqlFault.{SqlFault}
 use Rattle.resin_sql_more.specs.Under.sql.declared.fault.SqlFault.TheVariants.{Bad, Memory}
 use Rattle.resin_sql_more.specs.Under.sql.declared.fault.SqlRefusal.{SqlRefusal}
@@ -113,10 +112,10 @@ executed ev (Total s) cells = carried_with_ticks (total_plan s cells) >>= more_a
 
 -- what a text is read as: its literals are kept, which makes no keeper call, and then it is carried out; or it is no statement
 abbrev pub run_read : Evals → LabelledText → Result MoreStmt SqlFault → Prog Tree
-run_read ev t (Ok s) = kept_literals ev t (literals s) [] >>= executed ev s
-run_read ev t (Err (Bad place)) = refused (syntax_at place)
+run_read ev t (Ok s) = kept_literals ev t (more_literals s) [] >>= executed ev s
+run_read ev t (Err (Bad place)) = refused (syntax_message place)
 run_read ev t (Err Memory) = stop NoMemory
 
 -- the text passes its filters, and what they give is read
 abbrev pub sql_query : Evals → LabelledText → Prog Tree
-sql_query ev q = keep_through ev Sql (context_of Sql) q >>= λ t. run_read ev t (read_as (bytes_of t))
+sql_query ev q = keep_through ev Sql (context_of Sql) q >>= λ t. run_read ev t (read_more_as (bytes_of t))

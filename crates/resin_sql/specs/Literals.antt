@@ -1,4 +1,4 @@
--- The literals of a statement, in the order in which they stand.
+-- The literals of a statement, NULL among them, in the order in which they stand. The number of LIMIT is none.
 use Rattle.std.specs.Prelude.{List, [], ◌∷◌, ◌++◌, map, Option, Some, None}
 use Rattle.std.specs.List.{flat_map}
 use Rattle.resin_sql_words.specs.declared.literals.Literal.{Literal}
@@ -28,7 +28,7 @@ of_where (Some condition) = of_condition condition
 
 -- row by row
 abbrev pub of_rows : List (List Literal) → List Literal
-of_rows rows = flat_map (λ row. row) rows
+of_rows rows = flat_map (λ (row : List Literal). row) rows
 
 abbrev pub of_changes : List Change → List Literal
 of_changes changes = map (λ (c : Change). c.literal) changes

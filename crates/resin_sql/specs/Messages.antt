@@ -1,7 +1,5 @@
--- What is told of a text that is no statement, and of a statement that is refused.
-use Rattle.std.specs.Prelude.{ℕ, List, [], ◌++◌, codes, decimal}
-use Rattle.resin_sql.specs.declared.fault.SqlFault.{SqlFault}
-use Rattle.resin_sql.specs.declared.fault.SqlFault.TheVariants.{Bad, Memory}
+-- What is told of a statement that has no answer, as the message of an SqlException (this project).
+use Rattle.std.specs.Prelude.{ℕ, List, ◌++◌, codes, decimal}
 use Rattle.resin_sql.specs.declared.fault.SqlRefusal.{SqlRefusal}
 use Rattle.resin_sql.specs.declared.fault.SqlRefusal.TheVariants.{TableExists, SameTable, NoTable, NoColumn, DuplicateColumn, WrongCount, WrongKind, Full}
 
@@ -15,6 +13,6 @@ message WrongCount = codes "wrong count"
 message WrongKind = codes "wrong kind"
 message Full = codes "full"
 
--- with the place of the fault
-abbrev pub syntax_at : ℕ → List ℕ
-syntax_at place = codes "syntax at " ++ decimal place
+-- of a text that is no statement, by the place of its fault
+abbrev pub syntax_message : ℕ → List ℕ
+syntax_message at = codes "syntax at " ++ decimal at

@@ -33,27 +33,6 @@ pub enum SqlRefusal {
     Full,
 }
 
-impl SqlRefusal {
-    ghost use Rattle.std.specs.Prelude.{◌≡◌};
-    ghost use Rattle.resin_sql.specs.Messages.{message};
-
-    /// What is told of it.
-    pub fn message(self) -> &'static str
-        ensures { result.now ≡ message self }
-    {
-        match self {
-            SqlRefusal::TableExists => "table exists",
-            SqlRefusal::SameTable => "same table",
-            SqlRefusal::NoTable => "no table",
-            SqlRefusal::NoColumn => "no column",
-            SqlRefusal::DuplicateColumn => "duplicate column",
-            SqlRefusal::WrongCount => "wrong count",
-            SqlRefusal::WrongKind => "wrong kind",
-            SqlRefusal::Full => "full",
-        }
-    }
-}
-
 /// How a statement ends without an answer.
 #[derive(Clone, Copy, Debug, PartialEq, Eq)]
 pub enum SqlStop {
