@@ -1,4 +1,6 @@
 pub mod Carried
+pub mod Reads
+pub mod Values
 -- Passed on to the crates above, which list this one alone.
 pub use Rattle.resin_eval_writes.proofs.eval_nested_lemmas
 pub use Rattle.resin_eval_writes.proofs.meaning_lemmas

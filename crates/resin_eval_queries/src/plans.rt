@@ -18,11 +18,11 @@ use resin_sql_more::{JoinStmt, MoreAnswer, TotalStmt, exec_join, exec_total};
 use std::alloc::Global;
 
 // How a statement without an answer ends: it is refused, or the run stops.
-fn stopped(m: &Machine, stop: SqlStop) -> Result<SqlRefusal, Stop>
+fn stopped<A>(m: &Machine, stop: SqlStop) -> Result<Result<A, SqlRefusal>, Stop>
     ensures { result ≡ stopped m.now.line stop }
 {
     match stop {
-        SqlStop::Refused(refusal) => Ok(refusal),
+        SqlStop::Refused(refusal) => Ok(Err(refusal)),
         SqlStop::Keeper => Err(Stop::Keeper),
         SqlStop::Spent => Err(m.fault(ScriptFault::FuelSpent)),
         SqlStop::Memory => Err(Stop::Memory),
@@ -44,7 +44,7 @@ pub(crate) fn carry_out<F: Files, T: Tables>(
 {
     match exec(alloc, statement, cells, &mut run.tables, &mut run.calls) {
         Ok(answer) => Ok(Ok(answer)),
-        Err(stop) => Ok(Err(stopped(&run.machine, stop)?)),
+        Err(stop) => stopped(&run.machine, stop),
     }
 }
 
@@ -64,7 +64,7 @@ pub(crate) fn carry_out_join<F: Files, T: Tables>(
     let left = run.machine.ticks();
     match exec_join(alloc, statement, cells, left, &mut run.tables, &mut run.calls) {
         Ok(answer) => Ok(Ok(answer)),
-        Err(stop) => Ok(Err(stopped(&run.machine, stop)?)),
+        Err(stop) => stopped(&run.machine, stop),
     }
 }
 
@@ -80,6 +80,6 @@ pub(crate) fn carry_out_total<F: Files, T: Tables>(
     let left = run.machine.ticks();
     match exec_total(alloc, statement, cells, left, &mut run.tables, &mut run.calls) {
         Ok(answer) => Ok(Ok(answer)),
-        Err(stop) => Ok(Err(stopped(&run.machine, stop)?)),
+        Err(stop) => stopped(&run.machine, stop),
     }
 }
