@@ -1,5 +1,5 @@
-pub mod Carried
 pub mod Reads
+pub mod Rows
 pub mod Values
 -- Passed on to the crates above, which list this one alone.
 pub use Rattle.resin_eval_writes.proofs.eval_nested_lemmas

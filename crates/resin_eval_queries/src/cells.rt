@@ -26,7 +26,7 @@ use resin_eval_writes::under::step_parts::reads::plain;
 use resin_eval_writes::under::store::policies_of;
 use resin_eval_writes::under::value::Value;
 use resin_shadow::FrozenRuns;
-use resin_sql_more::is_null;
+use resin_eval_writes::under::meaning_tables::under::sql_more::is_null;
 use resin_step_keeping::thawing::thaw_entry;
 use std::alloc::{AllocError, Global};
 

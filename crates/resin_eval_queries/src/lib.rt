@@ -6,7 +6,6 @@
 
 mod cells;
 mod literals;
-mod plans;
 pub mod queries;
 mod rows;
 mod totals;

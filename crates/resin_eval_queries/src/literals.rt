@@ -3,7 +3,7 @@ ghost use Rattle.resin_eval_writes.specs.Under.eval_nested.Nested.{Nests, means}
 ghost use Rattle.resin_eval_writes.specs.Under.eval_nested.Running.{Performs};
 ghost use Rattle.resin_eval_writes.specs.Under.meaning_forms.Cells.{integer_byte, kept_literal, kept_literals, kept_shadow};
 ghost use Rattle.resin_eval_writes.specs.Under.meaning_forms.Runs.{Runs};
-ghost use Rattle.resin_sql_more.specs.Under.sql_words.declared.literals.Literal.TheVariants.{Integer, Text};
+ghost use Rattle.resin_eval_writes.specs.Under.meaning_tables.Under.sql_words.declared.literals.Literal.TheVariants.{Integer, Text};
 ghost use Rattle.resin_eval_writes.specs.Under.lstr.Texts.{carrying};
 ghost use Rattle.resin_eval_writes.specs.Under.meaning_forms.Parts.{Evals};
 ghost use Rattle.std.specs.Prelude.{IfOk, OnOk, [], ◌++◌, ◌∷◌, ◌≡◌};
@@ -17,7 +17,7 @@ use resin_eval_writes::under::label::PSet;
 use resin_eval_writes::under::lstr::LText;
 use resin_eval_writes::under::machine::{Machine, Stop};
 use resin_shadow::encode;
-use resin_sql_more::under::sql::{Literal, Span, literal_text};
+use resin_eval_writes::under::meaning_tables::under::sql::{Literal, Span, literal_text};
 use resin_step_keeping::freezing::freeze_text;
 use std::alloc::{AllocError, Global};
 

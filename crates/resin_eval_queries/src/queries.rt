@@ -5,14 +5,17 @@ ghost use Rattle.resin_eval_writes.specs.Under.lstr.Texts.{bytes_of};
 ghost use Rattle.resin_eval_writes.specs.Under.meaning_forms.Queries.{answered, executed, joined, more_answered, refused, result_value, run_read, sql_query, totalled};
 ghost use Rattle.resin_eval_writes.specs.Under.meaning_forms.Runs.{Runs, on_ok};
 ghost use Rattle.resin_eval_writes.specs.Under.value.Seen.{tree_of};
-ghost use Rattle.resin_sql_more.specs.Under.joint.Readings.{read_more_as};
-ghost use Rattle.resin_sql_more.specs.Under.sql.Messages.{message};
+ghost use Rattle.resin_eval_writes.specs.Under.meaning_tables.Under.joint.Readings.{read_more_as};
+ghost use Rattle.resin_eval_writes.specs.Under.meaning_tables.Under.sql.Messages.{message};
 ghost use Rattle.resin_eval_writes.specs.Under.label.Sets.{empty as no_labels};
 ghost use Rattle.resin_eval_writes.specs.Under.value.Trees.{integer};
+ghost use Rattle.resin_eval_writes.specs.Under.meaning_tables.Plans.{carried_out, carried_with_ticks};
+ghost use Rattle.resin_eval_writes.specs.Under.meaning_tables.Under.plan.Statements.{plan};
+ghost use Rattle.resin_eval_writes.specs.Under.meaning_tables.Under.sql_more.Joins.{join_plan};
+ghost use Rattle.resin_eval_writes.specs.Under.meaning_tables.Under.sql_more.Totals.{total_plan};
 ghost use Rattle.std.specs.Prelude.{IfOk, Ok, pos, ◌≡◌};
 
 use crate::literals::LiteralKeeper;
-use crate::plans::{carry_out, carry_out_join, carry_out_total};
 use crate::rows::RowReader;
 use crate::totals::Totaller;
 use resin_eval_writes::leaving::context_of;
@@ -24,12 +27,17 @@ use resin_eval_writes::under::heap::PreludeClass;
 use resin_eval_writes::under::journal::Channel;
 use resin_eval_writes::under::lstr::LText;
 use resin_eval_writes::under::machine::{Machine, Stop};
+use resin_eval_writes::under::meaning_tables::{carry_out, carry_out_join, carry_out_total};
 use resin_eval_writes::under::step_parts::reads::number;
 use resin_eval_writes::under::value::Value;
-use resin_sql_more::under::joint::more_literals;
-use resin_sql_more::under::plan::{SqlAnswer, SqlResult};
-use resin_sql_more::under::sql::{SqlFault, SqlRefusal, syntax_message};
-use resin_sql_more::{MoreAnswer, MoreStmt, TotalItem, read_more};
+use resin_eval_writes::under::meaning_tables::under::joint::more_literals;
+use resin_eval_writes::under::meaning_tables::under::plan::{SqlAnswer, SqlResult};
+use resin_eval_writes::under::meaning_tables::under::sql::{
+    SqlFault, SqlRefusal, Stmt, syntax_message,
+};
+use resin_eval_writes::under::meaning_tables::under::sql_more::{
+    JoinStmt, MoreAnswer, MoreStmt, TotalItem, TotalStmt, read_more,
+};
 use std::alloc::{AllocError, Global};
 
 /// The largest integer.
@@ -132,6 +140,45 @@ impl<
         }
     }
 
+    // A statement that is no join and no total is carried out.
+    fn plain(
+        &self,
+        run: &mut Run<F, T>,
+        statement: &Stmt,
+        cells: &Stored,
+    ) -> Result<Result<SqlAnswer, SqlRefusal>, Stop>
+        ensures { Performs F.Files T.Tables (carried_out (plan statement.now cells.now)) run.old result run.new }
+    {
+        let tables = &mut run.tables;
+        carry_out(self.by.alloc, &run.machine, statement, cells, tables, &mut run.calls)
+    }
+
+    // A join is.
+    fn join(
+        &self,
+        run: &mut Run<F, T>,
+        statement: &JoinStmt,
+        cells: &Stored,
+    ) -> Result<Result<MoreAnswer, SqlRefusal>, Stop>
+        ensures { Performs F.Files T.Tables (carried_with_ticks (join_plan statement.now cells.now)) run.old result run.new }
+    {
+        let tables = &mut run.tables;
+        carry_out_join(self.by.alloc, &run.machine, statement, cells, tables, &mut run.calls)
+    }
+
+    // A total is.
+    fn total(
+        &self,
+        run: &mut Run<F, T>,
+        statement: &TotalStmt,
+        cells: &Stored,
+    ) -> Result<Result<MoreAnswer, SqlRefusal>, Stop>
+        ensures { Performs F.Files T.Tables (carried_with_ticks (total_plan statement.now cells.now)) run.old result run.new }
+    {
+        let tables = &mut run.tables;
+        carry_out_total(self.by.alloc, &run.machine, statement, cells, tables, &mut run.calls)
+    }
+
     // A statement whose literals are kept so.
     fn execute(
         &self,
@@ -144,15 +191,15 @@ impl<
     {
         match statement {
             MoreStmt::Plain(statement) => {
-                let end = carry_out(self.by.alloc, run, statement, cells)?;
+                let end = self.plain(run, statement, cells)?;
                 self.answered(run, end)
             }
             MoreStmt::Join(statement) => {
-                let end = carry_out_join(self.by.alloc, run, statement, cells)?;
+                let end = self.join(run, statement, cells)?;
                 self.joined(run, end)
             }
             MoreStmt::Total(statement) => {
-                let end = carry_out_total(self.by.alloc, run, statement, cells)?;
+                let end = self.total(run, statement, cells)?;
                 self.totalled(run, statement.items.as_slice(), end)
             }
         }

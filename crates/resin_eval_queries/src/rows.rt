@@ -10,7 +10,7 @@ ghost use Rattle.resin_eval_writes.specs.Under.value.Arrays.{Array};
 ghost use Rattle.resin_eval_writes.specs.Under.value.Changes.{empty};
 ghost use Rattle.resin_eval_writes.specs.Under.value.Keys.{text_key};
 ghost use Rattle.resin_eval_writes.specs.Under.value.Seen.{tree_of};
-ghost use Rattle.std.specs.Prelude.{None, Some, ◌≡◌};
+ghost use Rattle.std.specs.Prelude.{None, Some, ◌<◌, ◌≡◌, ◌≤◌, ◌⊎◌};
 
 use crate::cells::CellReader;
 use resin_eval_writes::under::base::{Bytes, Files, Stored, StoredCell, Tables};
@@ -20,6 +20,13 @@ use resin_eval_writes::under::machine::{Machine, Stop};
 use resin_eval_writes::under::step_parts::reads::with_entry;
 use resin_eval_writes::under::value::{Arr, Key, Value};
 use std::alloc::Global;
+
+/// The lesser of two counts.
+pub(crate) fn least(a: usize, b: usize) -> usize
+    ensures { ((a ≤ b) × (result ≡ a)) ⊎ ((b < a) × (result ≡ b)) }
+{
+    if a <= b { a } else { b }
+}
 
 /// An array with a value put at the key that a name counts as.
 pub(crate) fn with_named(
@@ -79,7 +86,7 @@ impl<
         ensures { Performs F.Files T.Tables (row_on (means self.now.by.now) columns.now cells.now empty) run.old result run.new }
     {
         let mut row = Arr::new(self.by.alloc)?;
-        for i in 0..columns.len().min(cells.len()) {
+        for i in 0..least(columns.len(), cells.len()) {
             row = self.with_cell(run, row, columns[i].as_slice(), &cells[i])?;
         }
         Ok(row)

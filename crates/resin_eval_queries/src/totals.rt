@@ -8,12 +8,12 @@ ghost use Rattle.resin_eval_writes.specs.Under.meaning_forms.Totals.{item_or_fau
 ghost use Rattle.resin_eval_writes.specs.Under.value.Changes.{empty};
 ghost use Rattle.resin_eval_writes.specs.Under.value.Seen.{tree_of};
 ghost use Rattle.resin_eval_writes.specs.Under.lstr.Texts.{carrying};
-ghost use Rattle.resin_sql_more.specs.Totals.{item_name};
-ghost use Rattle.resin_sql_more.specs.Values.{item_value};
+ghost use Rattle.resin_eval_writes.specs.Under.meaning_tables.Under.sql_more.Totals.{item_name};
+ghost use Rattle.resin_eval_writes.specs.Under.meaning_tables.Under.sql_more.Values.{item_value};
 ghost use Rattle.std.specs.Prelude.{IfOk, map, ◌≡◌};
 
 use crate::cells::{CellReader, marks_of_cells};
-use crate::rows::{with_last, with_named};
+use crate::rows::{least, with_last, with_named};
 use resin_eval_functions::under::eval_merges::merges::Merger;
 use resin_eval_writes::under::base::{Cell, Files, Stored, StoredCell, Tables};
 use resin_eval_writes::under::eval_nested::nested::{Evaluator, Nested, Outcome};
@@ -23,8 +23,8 @@ use resin_eval_writes::under::lstr::LText;
 use resin_eval_writes::under::machine::{Machine, Stop};
 use resin_eval_writes::under::scalar::ScriptFault;
 use resin_eval_writes::under::value::{Arr, Value};
-use resin_sql_more::under::rows::copied_or_null;
-use resin_sql_more::{MoreAnswer, TotalFault, TotalItem, first_items, item_name, item_value};
+use resin_eval_writes::under::meaning_tables::under::rows::copied_or_null;
+use resin_eval_writes::under::meaning_tables::under::sql_more::{MoreAnswer, TotalFault, TotalItem, first_items, item_name, item_value};
 use resin_step_keeping::thawing::thaw_sets;
 use std::alloc::{AllocError, Global};
 
@@ -155,7 +155,7 @@ impl<
         ensures { Performs F.Files T.Tables (items_on (means self.now.by.now) chosen items.now rows.now empty) run.old result run.new }
     {
         let mut row = Arr::new(self.by.alloc)?;
-        for i in 0..items.len().min(rows.len()) {
+        for i in 0..least(items.len(), rows.len()) {
             row = self.with_item(run, row, &items[i], chosen, rows[i].as_slice())?;
         }
         Ok(row)

@@ -12,19 +12,19 @@ use Rattle.resin_builtin.specs.Under.value.declared.value.Value.{Value}
 use Rattle.resin_builtin.specs.Under.value.declared.value.Value.TheVariants.{Arr}
 use Rattle.resin_target.specs.Under.journal.Channels.{channel_name}
 use Rattle.resin_target.specs.Under.journal.declared.channel.Channel.TheVariants.{Sql}
-use Rattle.resin_meaning.specs.Under.base.FileStore.{entry_of}
-use Rattle.resin_meaning.specs.Under.base.declared.cell.Cell.{Cell}
-use Rattle.resin_meaning.specs.Under.base.declared.cell.Cell.TheVariants as cell
-use Rattle.resin_meaning.specs.Under.base.declared.stored.StoredCell.{StoredCell}
-use Rattle.resin_meaning.specs.Under.store.Cells.{stored, one_byte}
-use Rattle.resin_meaning.specs.Under.store.Entries.{LabelledEntry, Good, Bad, lift, marks}
-use Rattle.resin_meaning.specs.Programs.{Prog, give, ◌>>=◌}
+use Rattle.resin_meaning_tables.specs.Under.base.FileStore.{entry_of}
+use Rattle.resin_meaning_tables.specs.Under.base.declared.cell.Cell.{Cell}
+use Rattle.resin_meaning_tables.specs.Under.base.declared.cell.Cell.TheVariants as cell
+use Rattle.resin_meaning_tables.specs.Under.base.declared.stored.StoredCell.{StoredCell}
+use Rattle.resin_meaning_tables.specs.Under.store.Cells.{stored, one_byte}
+use Rattle.resin_meaning_tables.specs.Under.store.Entries.{LabelledEntry, Good, Bad, lift, marks}
+use Rattle.resin_meaning_tables.specs.Under.meaning.Programs.{Prog, give, ◌>>=◌}
 use Rattle.resin_shadow.specs.Marks.{Marks}
 use Rattle.resin_shadow.specs.Shadows.{written2}
-use Rattle.resin_sql_more.specs.Totals.{is_null}
-use Rattle.resin_sql_more.specs.Under.sql.Labels.{labelled}
-use Rattle.resin_sql_more.specs.Under.sql_words.declared.literals.Literal.{Literal}
-use Rattle.resin_sql_more.specs.Under.sql_words.declared.literals.Literal.TheVariants as l
+use Rattle.resin_meaning_tables.specs.Under.sql_more.Totals.{is_null}
+use Rattle.resin_meaning_tables.specs.Under.sql.Labels.{labelled}
+use Rattle.resin_meaning_tables.specs.Under.sql_words.declared.literals.Literal.{Literal}
+use Rattle.resin_meaning_tables.specs.Under.sql_words.declared.literals.Literal.TheVariants as l
 use Rattle.resin_meaning_forms.specs.Keeping.{freeze_text, thaw_entry, size}
 use Rattle.resin_meaning_forms.specs.Merges.{folded}
 use Rattle.resin_meaning_forms.specs.Parts.{Evals, faulted}

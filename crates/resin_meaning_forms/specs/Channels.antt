@@ -19,7 +19,7 @@ use Rattle.resin_builtin.specs.Under.scalar.declared.faults.ScriptFault.TheVaria
 use Rattle.resin_target.specs.Under.heap.declared.prelude.PreludeClass.TheVariants.{ValueError}
 use Rattle.resin_target.specs.Under.machine.Steps.{awake}
 use Rattle.resin_target.specs.Under.machine.Leaving.{open_buffer, close_buffer}
-use Rattle.resin_meaning.specs.Programs.{Prog, give, act, ◌>>=◌}
+use Rattle.resin_meaning_tables.specs.Under.meaning.Programs.{Prog, give, act, ◌>>=◌}
 use Rattle.resin_meaning_forms.specs.declared.callee.ChannelFunction.{ChannelFunction}
 use Rattle.resin_meaning_forms.specs.declared.callee.ChannelFunction.TheVariants.{BufferStart, BufferGetClean, BufferEndClean, BufferEndFlush, Header as HeaderFunction, ResponseCode, Mail as MailFunction, FilePutContents, FileGetContents, Unlink, FileExists, SqlQuery}
 use Rattle.resin_meaning_forms.specs.declared.outgoing.Outgoing.TheVariants.{Header as HeaderLine, Status, Mail}

@@ -10,7 +10,6 @@ pub mod Names
 pub mod Functions
 pub mod Reading
 pub mod Files
-pub mod Plans
 pub mod Cells
 pub mod Totals
 pub mod Sources

@@ -3,7 +3,6 @@ use Rattle.std.specs.Prelude.{ℕ, pos, List, [], ◌∷◌, Option, None, Some,
 use Rattle.resin_builtin.specs.Under.array_fn.Filled.{added_at}
 use Rattle.resin_builtin.specs.Under.label.Sets.{empty as no_labels}
 use Rattle.resin_builtin.specs.Under.lstr.Texts.{Text as LabelledText, bytes_of}
-use Rattle.resin_builtin.specs.Under.scalar.declared.faults.ScriptFault.TheVariants.{FuelSpent}
 use Rattle.resin_builtin.specs.Under.value.Arrays.{Array}
 use Rattle.resin_builtin.specs.Under.value.Changes.{empty}
 use Rattle.resin_builtin.specs.Under.value.Keys.{text_key}
@@ -13,32 +12,30 @@ use Rattle.resin_target.specs.Under.journal.declared.channel.Channel.TheVariants
 use Rattle.resin_target.specs.Under.machine.Objects.{throw_new}
 use Rattle.resin_target.specs.Under.machine.Steps.{charge}
 use Rattle.resin_target.specs.Under.machine.declared.stop.Stop.TheVariants.{Memory as NoMemory}
-use Rattle.resin_meaning.specs.Under.base.declared.stored.StoredCell.{StoredCell}
-use Rattle.resin_meaning.specs.Programs.{Prog, give, stop, act, ◌>>=◌}
-use Rattle.resin_sql_more.specs.Joins.{join_plan}
-use Rattle.resin_sql_more.specs.Plans.{End, Answers, Refuses, Costs}
-use Rattle.resin_sql_more.specs.Plans.{Plan as MorePlan}
-use Rattle.resin_sql_more.specs.Totals.{first_items, total_plan}
-use Rattle.resin_sql_more.specs.declared.answer.MoreAnswer.{MoreAnswer}
-use Rattle.resin_sql_more.specs.Under.joint.Readings.{read_more_as, more_literals}
-use Rattle.resin_sql_more.specs.Under.joint.declared.tree.MoreStmt.{MoreStmt}
-use Rattle.resin_sql_more.specs.Under.joint.declared.tree.MoreStmt.TheVariants.{Plain, Join, Total}
-use Rattle.resin_sql_more.specs.Under.joint.declared.tree.JoinStmt.{JoinStmt}
-use Rattle.resin_sql_more.specs.Under.joint.declared.tree.TotalItem.{TotalItem}
-use Rattle.resin_sql_more.specs.Under.joint.declared.tree.TotalStmt.{TotalStmt}
-use Rattle.resin_sql_more.specs.Under.plan.Statements.{plan}
-use Rattle.resin_sql_more.specs.Under.plan.declared.answer.SqlAnswer.{SqlAnswer}
-use Rattle.resin_sql_more.specs.Under.plan.declared.answer.SqlResult.{SqlResult}
-use Rattle.resin_sql_more.specs.Under.plan.declared.answer.SqlResult.TheVariants.{Count, Rows}
-use Rattle.resin_sql_more.specs.Under.sql.Messages.{message, syntax_message}
-use Rattle.resin_sql_more.specs.Under.sql.declared.fault.SqlFault.{SqlFault}
-use Rattle.resin_sql_more.specs.Under.sql.declared.fault.SqlFault.TheVariants.{Bad, Memory}
-use Rattle.resin_sql_more.specs.Under.sql.declared.fault.SqlRefusal.{SqlRefusal}
-use Rattle.resin_sql_more.specs.Under.sql.declared.tree.Stmt.{Stmt}
+use Rattle.resin_meaning_tables.specs.Under.base.declared.stored.StoredCell.{StoredCell}
+use Rattle.resin_meaning_tables.specs.Under.meaning.Programs.{Prog, give, stop, act, ◌>>=◌}
+use Rattle.resin_meaning_tables.specs.Under.sql_more.Joins.{join_plan}
+use Rattle.resin_meaning_tables.specs.Under.sql_more.Totals.{first_items, total_plan}
+use Rattle.resin_meaning_tables.specs.Under.sql_more.declared.answer.MoreAnswer.{MoreAnswer}
+use Rattle.resin_meaning_tables.specs.Under.joint.Readings.{read_more_as, more_literals}
+use Rattle.resin_meaning_tables.specs.Under.joint.declared.tree.MoreStmt.{MoreStmt}
+use Rattle.resin_meaning_tables.specs.Under.joint.declared.tree.MoreStmt.TheVariants.{Plain, Join, Total}
+use Rattle.resin_meaning_tables.specs.Under.joint.declared.tree.JoinStmt.{JoinStmt}
+use Rattle.resin_meaning_tables.specs.Under.joint.declared.tree.TotalItem.{TotalItem}
+use Rattle.resin_meaning_tables.specs.Under.joint.declared.tree.TotalStmt.{TotalStmt}
+use Rattle.resin_meaning_tables.specs.Under.plan.Statements.{plan}
+use Rattle.resin_meaning_tables.specs.Under.plan.declared.answer.SqlAnswer.{SqlAnswer}
+use Rattle.resin_meaning_tables.specs.Under.plan.declared.answer.SqlResult.{SqlResult}
+use Rattle.resin_meaning_tables.specs.Under.plan.declared.answer.SqlResult.TheVariants.{Count, Rows}
+use Rattle.resin_meaning_tables.specs.Under.sql.Messages.{message, syntax_message}
+use Rattle.resin_meaning_tables.specs.Under.sql.declared.fault.SqlFault.{SqlFault}
+use Rattle.resin_meaning_tables.specs.Under.sql.declared.fault.SqlFault.TheVariants.{Bad, Memory}
+use Rattle.resin_meaning_tables.specs.Under.sql.declared.fault.SqlRefusal.{SqlRefusal}
+use Rattle.resin_meaning_tables.specs.Under.sql.declared.tree.Stmt.{Stmt}
 use Rattle.resin_meaning_forms.specs.Cells.{kept_literals, cell_value}
 use Rattle.resin_meaning_forms.specs.Inputs.{as_tree}
-use Rattle.resin_meaning_forms.specs.Parts.{Evals, computed, faulted, looked, ◌>>◌}
-use Rattle.resin_meaning_forms.specs.Plans.{carried_out}
+use Rattle.resin_meaning_forms.specs.Parts.{Evals, computed, ◌>>◌}
+use Rattle.resin_meaning_tables.specs.Plans.{carried_out, carried_with_ticks}
 use Rattle.resin_meaning_forms.specs.Reading.{keep_through}
 use Rattle.resin_meaning_forms.specs.Totals.{items_on}
 use Rattle.resin_meaning_forms.specs.Writes.{context_of}
@@ -76,16 +73,6 @@ answered ev (Ok answer) = act (charge answer.scanned) >> result_value ev answer.
 answered ev (Err x) = refused (message x)
 
 -- ---- joins and totals
-
--- what one comes to; where its rows cost more than is left, they aren't looked at
-abbrev pub paid_for : End → Prog (Result MoreAnswer SqlRefusal)
-paid_for (Answers answer) = give (Ok answer)
-paid_for (Refuses x) = give (Err x)
-paid_for Costs = faulted FuelSpent
-
--- its calls, and what they come to with the ticks that are left
-abbrev pub carried_with_ticks : (ℕ → MorePlan) → Prog (Result MoreAnswer SqlRefusal)
-carried_with_ticks plan = looked (λ m. m.ticks) >>= λ left. carried_out (plan left) >>= paid_for
 
 -- the cost is charged, and then the answer is made
 abbrev pub more_answered : (MoreAnswer → Prog Tree) → Result MoreAnswer SqlRefusal → Prog Tree

@@ -8,15 +8,15 @@ use Rattle.resin_builtin.specs.Under.value.Arrays.{Array}
 use Rattle.resin_builtin.specs.Under.value.Keys.{text_key}
 use Rattle.resin_builtin.specs.Under.value.Trees.{Tree, null, integer}
 use Rattle.resin_target.specs.Under.machine.declared.stop.Stop.TheVariants.{Memory}
-use Rattle.resin_meaning.specs.Under.base.declared.cell.Cell.{Cell}
-use Rattle.resin_meaning.specs.Under.base.declared.cell.Cell.TheVariants as cell
-use Rattle.resin_meaning.specs.Under.base.declared.stored.StoredCell.{StoredCell}
-use Rattle.resin_meaning.specs.Programs.{Prog, give, stop, ◌>>=◌}
-use Rattle.resin_sql_more.specs.Totals.{item_name}
-use Rattle.resin_sql_more.specs.Values.{item_value}
-use Rattle.resin_sql_more.specs.declared.values.TotalFault.{TotalFault}
-use Rattle.resin_sql_more.specs.declared.values.TotalFault.TheVariants as fault
-use Rattle.resin_sql_more.specs.Under.joint.declared.tree.TotalItem.{TotalItem}
+use Rattle.resin_meaning_tables.specs.Under.base.declared.cell.Cell.{Cell}
+use Rattle.resin_meaning_tables.specs.Under.base.declared.cell.Cell.TheVariants as cell
+use Rattle.resin_meaning_tables.specs.Under.base.declared.stored.StoredCell.{StoredCell}
+use Rattle.resin_meaning_tables.specs.Under.meaning.Programs.{Prog, give, stop, ◌>>=◌}
+use Rattle.resin_meaning_tables.specs.Under.sql_more.Totals.{item_name}
+use Rattle.resin_meaning_tables.specs.Under.sql_more.Values.{item_value}
+use Rattle.resin_meaning_tables.specs.Under.sql_more.declared.values.TotalFault.{TotalFault}
+use Rattle.resin_meaning_tables.specs.Under.sql_more.declared.values.TotalFault.TheVariants as fault
+use Rattle.resin_meaning_tables.specs.Under.joint.declared.tree.TotalItem.{TotalItem}
 use Rattle.resin_meaning_forms.specs.Cells.{read_text, marks_of_cells}
 use Rattle.resin_meaning_forms.specs.Keeping.{thaw_sets}
 use Rattle.resin_meaning_forms.specs.Merges.{fold_sets}

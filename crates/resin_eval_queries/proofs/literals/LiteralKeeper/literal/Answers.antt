@@ -3,7 +3,7 @@ use Rattle.resin_eval_writes.specs.Under.base.declared.cell.Cell.TheVariants as 
 use Rattle.resin_eval_writes.specs.Under.meaning_forms.Cells.{kept_literal}
 use Rattle.resin_eval_writes.specs.Under.meaning_forms.Programs.{evals}
 use Rattle.resin_eval_writes.specs.Under.store.Cells.{stored}
-use Rattle.resin_sql_more.specs.Under.sql_words.declared.literals.Literal.{Literal}
+use Rattle.resin_eval_writes.specs.Under.meaning_tables.Under.sql_words.declared.literals.Literal.{Literal}
 use Rattle.resin_eval_writes.proofs.eval_nested_lemmas.Arms.{does_given}
 use Rattle.resin_eval_writes.proofs.eval_nested_lemmas.Exits.{does_is}
 use Rattle.resin_eval_queries.proofs.literals.LiteralKeeper.literal.Goals as goal

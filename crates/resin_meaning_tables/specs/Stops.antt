@@ -1,9 +1,9 @@
 -- How a statement's end without an answer ends a run.
 use Rattle.std.specs.Prelude.{ℕ, Result, Ok, Err}
-use Rattle.resin_eval_writes.specs.Under.machine.declared.stop.Stop.{Stop}
-use Rattle.resin_eval_writes.specs.Under.machine.declared.stop.Stop.TheVariants.{Fault}
-use Rattle.resin_eval_writes.specs.Under.machine.declared.stop.Stop.TheVariants as stop
-use Rattle.resin_eval_writes.specs.Under.scalar.declared.faults.ScriptFault.TheVariants.{FuelSpent}
+use Rattle.resin_machine.specs.declared.stop.Stop.{Stop}
+use Rattle.resin_machine.specs.declared.stop.Stop.TheVariants.{Fault}
+use Rattle.resin_machine.specs.declared.stop.Stop.TheVariants as stop
+use Rattle.resin_machine.specs.Under.scalar.declared.faults.ScriptFault.TheVariants.{FuelSpent}
 use Rattle.resin_sql_more.specs.Under.sql.declared.fault.SqlRefusal.{SqlRefusal}
 use Rattle.resin_sql_more.specs.Under.sql.declared.fault.SqlStop.{SqlStop}
 use Rattle.resin_sql_more.specs.Under.sql.declared.fault.SqlStop.TheVariants.{Refused, Keeper, Spent, Memory}

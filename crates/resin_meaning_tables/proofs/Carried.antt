@@ -1,24 +1,23 @@
 -- A run along a plan is a run of the program that the plan means.
-use Rattle.std.proofs.Common.{◌≡◌, ◌≢◌, ℕ, ◌≤◌, List, Bool, Option, Result, Ok, Err, inl, inr, refl, sym, ap, subst, ◌∙◌}
-use Rattle.resin_eval_writes.specs.Under.base.Causes.{last_count}
-use Rattle.resin_eval_writes.specs.Under.base.TableStore.{columns_of, rows_of, next_number, after_create, after_insert, can_update, after_update, has_row, after_delete}
-use Rattle.resin_eval_writes.specs.Under.base.declared.faults.KeepFault.{KeepFault}
-use Rattle.resin_eval_writes.specs.Under.base.declared.faults.KeepFault.TheVariants as fault
-use Rattle.resin_eval_writes.specs.Under.machine.State.{State}
-use Rattle.resin_eval_writes.specs.Under.machine.declared.stop.Stop.{Stop}
-use Rattle.resin_eval_writes.specs.Under.machine.declared.stop.Stop.TheVariants as stop
-use Rattle.resin_eval_writes.specs.Under.meaning.KeeperCalls.{kept}
-use Rattle.resin_eval_writes.specs.Under.meaning.Programs.{Prog, give, ◌>>=◌}
-use Rattle.resin_eval_writes.specs.Under.meaning.Runs.{Seen, World, world, seen, Does}
-use Rattle.resin_eval_writes.specs.Under.meaning.Runs.{Leads as LeadsTo}
-use Rattle.resin_eval_writes.specs.Under.meaning_forms.Parts.{faulted}
-use Rattle.resin_eval_writes.specs.Under.meaning_forms.Plans.{asked, carried_out}
-use Rattle.resin_eval_writes.specs.Under.meaning_forms.Queries.{paid_for}
-use Rattle.resin_eval_writes.specs.Under.scalar.declared.faults.ScriptFault.TheVariants.{FuelSpent}
-use Rattle.resin_eval_writes.specs.Under.store.Files.{LabelledFiles}
-use Rattle.resin_eval_writes.proofs.meaning_lemmas.Composition.{does_next, does_stop, does_give, does_nothing, does_unbegun, leads_here, leads_next}
-use Rattle.resin_eval_writes.proofs.meaning_lemmas.OneCall.{does_table_call, does_unasked, create_follows, columns_follows, rows_follows, insert_follows, update_follows, delete_follows}
-use Rattle.resin_eval_writes.proofs.step_parts_lemmas.Steps.{does_faulted}
+use Rattle.std.proofs.Common.{◌≡◌, ◌≢◌, ℕ, ◌≤◌, List, Bool, Option, Result, Ok, Err, inl, inr, refl, sym, ap, subst, ◌∙◌, arith}
+use Rattle.resin_meaning.specs.Under.base.Causes.{last_count}
+use Rattle.resin_meaning.specs.Under.base.TableStore.{columns_of, rows_of, next_number, after_create, after_insert, can_update, after_update, has_row, after_delete}
+use Rattle.resin_meaning.specs.Under.base.declared.faults.KeepFault.{KeepFault}
+use Rattle.resin_meaning.specs.Under.base.declared.faults.KeepFault.TheVariants as fault
+use Rattle.resin_machine.specs.State.{State}
+use Rattle.resin_machine.specs.declared.stop.Stop.{Stop}
+use Rattle.resin_machine.specs.declared.stop.Stop.TheVariants as stop
+use Rattle.resin_meaning.specs.KeeperCalls.{kept}
+use Rattle.resin_meaning.specs.Programs.{Prog, give, act, ◌>>=◌}
+use Rattle.resin_meaning.specs.Runs.{Seen, World, world, seen, Does}
+use Rattle.resin_meaning.specs.Runs.{Leads as LeadsTo}
+use Rattle.resin_meaning_tables.specs.Plans.{asked, carried_out, paid_for, ticks_left}
+use Rattle.resin_machine.specs.Under.scalar.declared.faults.ScriptFault.TheVariants.{FuelSpent}
+use Rattle.resin_meaning.specs.Under.store.Files.{LabelledFiles}
+use Rattle.resin_machine.specs.Steps.{Act, faults}
+use Rattle.resin_machine.proofs.Kept.{keeps_same}
+use Rattle.resin_meaning.proofs.Composition.{does_act, does_next, does_stop, does_give, does_nothing, does_unbegun, leads_here, leads_next}
+use Rattle.resin_meaning.proofs.OneCall.{does_table_call, does_unasked, create_follows, columns_follows, rows_follows, insert_follows, update_follows, delete_follows}
 use Rattle.resin_sql_more.specs.Under.plan.Plans.{Steps, Done, Ask, Plan, Leads, here, behind, Ends, answered, refused, failed, spent, wanting, wanting_in_call}
 use Rattle.resin_sql_more.specs.Under.plan.TableCalls.{TableCall, Answer, MakeTable, AskColumns, AskRows, AddRow, SetRow, TakeRow, Keeping, IsCalled}
 use Rattle.resin_sql_more.specs.Under.plan.declared.answer.SqlAnswer.{SqlAnswer}
@@ -27,7 +26,7 @@ use Rattle.resin_sql_more.specs.Under.sql.declared.fault.SqlStop.{SqlStop}
 use Rattle.resin_sql_more.specs.Under.sql.declared.fault.SqlStop.TheVariants.{Refused, Keeper, Spent, Memory}
 use Rattle.resin_sql_more.specs.Plans as more
 use Rattle.resin_sql_more.specs.declared.answer.MoreAnswer.{MoreAnswer}
-use Rattle.resin_eval_queries.specs.Stops.{ended}
+use Rattle.resin_meaning_tables.specs.Stops.{ended}
 
 -- the keeper of tables and the calls, beside a machine and files
 abbrev pub beside : State → Seen LabelledFiles → Keeping → World
@@ -84,6 +83,14 @@ does_until {w = w} {s = s} call next m f l d = (leads_along m f l).goes_on (Err 
 pub does_before : {A : Type 0} {p q : Steps A} {u w : Keeping} (m : State) (f : Seen LabelledFiles) → Leads p u q w → Does (carried_out p) (beside m f u) (Err stop.Memory) (beside m f w)
 does_before {q = q} {w = w} m f l = (leads_along m f l).goes_on (Err stop.Memory) (beside m f w) (does_front q (beside m f w))
 
+-- too few ticks
+does_costly : {A : Type 0} (m : State) (f : Seen LabelledFiles) (u : Keeping) → Does (act (faults {A = A} FuelSpent)) (beside m f u) (Err (stop.Fault FuelSpent m.line)) (beside m f u)
+does_costly {A = A} m f u = does_act (faults {A = A} FuelSpent) f _ u.calls (record { acted = refl; ticks = omega arith; keeps = keeps_same m; ties = λ ne h. h })
+
+-- the ticks that are left
+pub does_tell : (m : State) (f : Seen LabelledFiles) (u : Keeping) (left : ℕ) → left ≡ m.ticks → Does (act ticks_left) (beside m f u) (Ok left) (beside m f u)
+does_tell m f u left e = rw e (does_act ticks_left f _ u.calls (record { acted = refl; ticks = omega arith; keeps = keeps_same m; ties = λ ne h. h }))
+
 -- a statement that is no join and no total
 pub does_plan : {p : Plan} {u w : Keeping} {r : Result SqlAnswer SqlStop} (m : State) (f : Seen LabelledFiles) → Ends p u r w → Does (carried_out p) (beside m f u) (ended m.line r) (beside m f w)
 does_plan m f (answered l) = does_all m f l
@@ -97,7 +104,7 @@ does_plan m f (wanting_in_call {call = call} {next = next} {v = v} {w = w} l c) 
 pub does_more : {p : more.Plan} {u w : Keeping} {r : Result MoreAnswer SqlStop} (m : State) (f : Seen LabelledFiles) → more.Ends p u r w → Does (carried_out p >>= paid_for) (beside m f u) (ended m.line r) (beside m f w)
 does_more {w = w} m f (more.answered {answer = answer} l) = does_next _ paid_for (does_all m f l) (does_give (Ok answer) (beside m f w))
 does_more {w = w} m f (more.refused {x = x} l) = does_next _ paid_for (does_all m f l) (does_give (Err x) (beside m f w))
-does_more {w = w} m f (more.dear l) = does_next _ paid_for (does_all m f l) (does_faulted FuelSpent m _ refl _ _ _)
+does_more {w = w} m f (more.dear l) = does_next _ paid_for (does_all m f l) (does_costly m f w)
 does_more m f (more.failed {call = call} {next = next} {v = v} {w = w} l c) = does_stop _ paid_for (does_until call next m f l (does_call call m f v w (Err fault.Failed) c))
 does_more m f (more.spent {call = call} {next = next} {w = w} l le) = does_stop _ paid_for (does_until call next m f l (does_full call m f w le))
 does_more m f (more.wanting l) = does_stop _ paid_for (does_before m f l)
