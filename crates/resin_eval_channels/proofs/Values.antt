@@ -13,7 +13,7 @@ use Rattle.resin_eval_queries.specs.Under.meaning_forms.Parts.{Evals}
 use Rattle.std.specs.Fmt.{signed_decimal}
 use Rattle.resin_eval_queries.specs.Under.ops.Conversions.{text_of}
 use Rattle.resin_eval_queries.specs.Under.meaning_forms.Channels.{channel_work, status_in, status_of, unbuilt}
-use Rattle.resin_eval_queries.specs.Under.meaning_forms.declared.callee.ChannelFunction.TheVariants.{FileExists, FileGetContents, FilePutContents, Header, Mail, Unlink}
+use Rattle.resin_eval_queries.specs.Under.meaning_forms.declared.callee.ChannelFunction.TheVariants.{FileExists, FileGetContents, FilePutContents, Header, Mail, SqlQuery, Unlink}
 use Rattle.resin_eval_queries.proofs.eval_nested_lemmas.Arguments.{IsNoText}
 use Rattle.resin_eval_queries.specs.Under.machine.State.{State}
 use Rattle.resin_eval_queries.specs.Under.machine.Objects.{settled}
@@ -147,6 +147,14 @@ no_read ev (Int n s) ts isnt = refl
 no_read ev (Text t) ts isnt = absurd (isnt t refl)
 no_read ev (Arr a) ts isnt = refl
 no_read ev (Obj o) ts isnt = refl
+
+pub no_query : (ev : Evals) (v : Value) (ts : List Tree) → IsNoText v → channel_work ev SqlQuery (tree_of v ∷ ts) ≡ unbuilt
+no_query ev Null ts isnt = refl
+no_query ev (Truth b) ts isnt = refl
+no_query ev (Int n s) ts isnt = refl
+no_query ev (Text t) ts isnt = absurd (isnt t refl)
+no_query ev (Arr a) ts isnt = refl
+no_query ev (Obj o) ts isnt = refl
 
 pub no_unlink : (ev : Evals) (v : Value) (ts : List Tree) → IsNoText v → channel_work ev Unlink (tree_of v ∷ ts) ≡ unbuilt
 no_unlink ev Null ts isnt = refl

@@ -1,12 +1,17 @@
 -- Rows and items, one cell after the other.
-use Rattle.std.proofs.Common.{◌≡◌, ℕ, ◌+◌, ◌<◌, ◌≤◌, List, [], ◌∷◌, ◌⊎◌, inl, inr, length, drop, get_or, refl, sym, ap, ◌∙◌, arith}
+use Rattle.std.proofs.Common.{◌≡◌, ℕ, ◌+◌, ◌<◌, ◌≤◌, Bool, true, false, nat_le, min, List, [], ◌∷◌, ◌⊎◌, inl, inr, length, drop, get_or, refl, sym, ap, ◌∙◌, arith, Result, IsErrAnd}
+use Rattle.std.proofs.lemmas.Bool.Decides.{nat_tests}
 use Rattle.resin_eval_writes.specs.Under.base.declared.stored.StoredCell.{StoredCell}
 use Rattle.resin_eval_writes.specs.Under.meaning.Programs.{give, ◌>>=◌}
 use Rattle.resin_eval_writes.specs.Under.meaning_forms.Parts.{Evals}
-use Rattle.resin_eval_writes.specs.Under.meaning_forms.Queries.{row_on, with_cell}
+use Rattle.resin_eval_writes.specs.Under.meaning_forms.Queries.{row_on, rows_on, with_cell}
 use Rattle.resin_eval_writes.specs.Under.meaning_forms.Totals.{items_on, with_item}
 use Rattle.resin_eval_writes.specs.Under.value.Arrays.{Array}
-use Rattle.resin_eval_writes.proofs.meaning_lemmas.Composition.{front, nothing_left}
+use Rattle.resin_eval_writes.specs.Under.machine.declared.stop.Stop.{Stop}
+use Rattle.resin_eval_writes.specs.Under.machine.declared.stop.Stop.TheVariants.{Memory}
+use Rattle.resin_eval_writes.specs.Under.meaning.Runs.{World, Does}
+use Rattle.resin_eval_writes.proofs.meaning_lemmas.Composition.{does_unbegun_exit, front, nothing_left}
+use Rattle.resin_eval_writes.proofs.step_parts_lemmas.Steps.{does_lost_give}
 use Rattle.resin_eval_writes.specs.Under.meaning_tables.Under.joint.declared.tree.TotalItem.{TotalItem}
 
 pub row_step : (ev : Evals) (columns : List (List ℕ)) (cells : List StoredCell) (i : ℕ) (column : List ℕ) (cell : StoredCell) (a : Array) → i < length columns → i < length cells → column ≡ get_or columns i column → cell ≡ get_or cells i cell
@@ -43,15 +48,30 @@ pub items_end : (ev : Evals) (chosen : ℕ) (its : List TotalItem) (rows : List 
 items_end ev chosen its rows i a (inl h) = ap (λ (xs : List TotalItem). items_on ev chosen xs (drop i rows) a) (nothing_left its i h) ∙ items_nil ev chosen (drop i rows) a
 items_end ev chosen its rows i a (inr h) = ap (λ (rs : List (List StoredCell)). items_on ev chosen (drop i its) rs a) (nothing_left rows i h) ∙ items_none ev chosen (drop i its) a
 
--- the place at the end of both, by the lesser of their lengths
-pub ended_at : (a b n i : ℕ) → ((a ≤ b) × (n ≡ a)) ⊎ ((b < a) × (n ≡ b)) → n ≤ i → (a ≤ i) ⊎ (b ≤ i)
-ended_at a b n i (inl (h, e)) k = inl (omega (arith, e, k))
-ended_at a b n i (inr (h, e)) k = inr (omega (arith, e, k))
+-- ---- want of memory before the first
 
-pub within_first : (a b n i : ℕ) → ((a ≤ b) × (n ≡ a)) ⊎ ((b < a) × (n ≡ b)) → i < n → i < a
-within_first a b n i (inl (h, e)) k = omega (arith, h, e, k)
-within_first a b n i (inr (h, e)) k = omega (arith, h, e, k)
+pub row_lost : (ev : Evals) (columns : List (List ℕ)) (cells : List StoredCell) (a : Array) {w : World} (r : Result Array Stop) → IsErrAnd r (λ e. e ≡ Memory) → Does (row_on ev columns cells a) w r w
+row_lost ev [] [] a r h = does_lost_give a r h
+row_lost ev [] (c ∷ cells) a r h = does_lost_give a r h
+row_lost ev (n ∷ columns) [] a r h = does_lost_give a r h
+row_lost ev (n ∷ columns) (c ∷ cells) a r h = does_unbegun_exit _ _ r h
 
-pub within_second : (a b n i : ℕ) → ((a ≤ b) × (n ≡ a)) ⊎ ((b < a) × (n ≡ b)) → i < n → i < b
-within_second a b n i (inl (h, e)) k = omega (arith, h, e, k)
-within_second a b n i (inr (h, e)) k = omega (arith, h, e, k)
+pub rows_lost : (ev : Evals) (columns : List (List ℕ)) (rows : List (List StoredCell)) (a : Array) {w : World} (r : Result Array Stop) → IsErrAnd r (λ e. e ≡ Memory) → Does (rows_on ev columns rows a) w r w
+rows_lost ev columns [] a r h = does_lost_give a r h
+rows_lost ev columns (cells ∷ rows) a r h = does_unbegun_exit _ _ r h
+
+pub items_lost : (ev : Evals) (chosen : ℕ) (its : List TotalItem) (rows : List (List StoredCell)) (a : Array) {w : World} (r : Result Array Stop) → IsErrAnd r (λ e. e ≡ Memory) → Does (items_on ev chosen its rows a) w r w
+items_lost ev chosen [] [] a r h = does_lost_give a r h
+items_lost ev chosen [] (cells ∷ rows) a r h = does_lost_give a r h
+items_lost ev chosen (it ∷ its) [] a r h = does_lost_give a r h
+items_lost ev chosen (it ∷ its) (cells ∷ rows) a r h = does_unbegun_exit _ _ r h
+
+-- ---- the end
+
+-- the place at the end of both
+pub ended_at : (a b i : ℕ) → min a b ≤ i → (a ≤ i) ⊎ (b ≤ i)
+ended_at a b i h = by (nat_le a b) refl
+  where
+    by : (t : Bool) → nat_le a b ≡ t → (a ≤ i) ⊎ (b ≤ i)
+    by true e = inl (let le : a ≤ b = grind (arith, nat_tests) in omega (arith, le, h))
+    by false e = inr (let lt : b < a = grind (arith, nat_tests) in omega (arith, lt, h))

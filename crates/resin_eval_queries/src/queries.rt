@@ -43,11 +43,18 @@ use std::alloc::{AllocError, Global};
 /// The largest integer.
 const MOST: u64 = 9_223_372_036_854_775_807;
 
-// A refusal is an exception with its message.
-fn refuse<A>(m: &mut Machine, refusal: SqlRefusal) -> Result<A, Stop>
-    ensures { Runs (refused (message refusal)) m.old result m.new }
+// An exception with a message.
+fn throw(m: &mut Machine, message: &[u8]) -> Result<Value, Stop>
+    ensures { Runs (refused message.now) m.old (on_ok tree_of result) m.new }
 {
-    m.throw(PreludeClass::SqlException, refusal.message().as_bytes())
+    m.throw(PreludeClass::SqlException, message)
+}
+
+// A refusal is an exception with its message.
+fn refuse(m: &mut Machine, refusal: SqlRefusal) -> Result<Value, Stop>
+    ensures { Runs (refused (message refusal)) m.old (on_ok tree_of result) m.new }
+{
+    throw(m, refusal.message().as_bytes())
 }
 
 // A count of rows. More than an integer counts find no memory.
@@ -229,7 +236,7 @@ impl<
             Ok(statement) => self.run_statement(run, text, &statement),
             Err(SqlFault::Bad { offset }) => {
                 let message = syntax_message(self.by.alloc, offset)?;
-                run.machine.throw(PreludeClass::SqlException, message.as_slice())
+                throw(&mut run.machine, message.as_slice())
             }
             Err(SqlFault::Memory) => Err(Stop::Memory),
         }

@@ -10,7 +10,7 @@ ghost use Rattle.resin_eval_writes.specs.Under.value.Arrays.{Array};
 ghost use Rattle.resin_eval_writes.specs.Under.value.Changes.{empty};
 ghost use Rattle.resin_eval_writes.specs.Under.value.Keys.{text_key};
 ghost use Rattle.resin_eval_writes.specs.Under.value.Seen.{tree_of};
-ghost use Rattle.std.specs.Prelude.{None, Some, ◌<◌, ◌≡◌, ◌≤◌, ◌⊎◌};
+ghost use Rattle.std.specs.Prelude.{None, Some, min, ◌≡◌};
 
 use crate::cells::CellReader;
 use resin_eval_writes::under::base::{Bytes, Files, Stored, StoredCell, Tables};
@@ -23,7 +23,7 @@ use std::alloc::Global;
 
 /// The lesser of two counts.
 pub(crate) fn least(a: usize, b: usize) -> usize
-    ensures { ((a ≤ b) × (result ≡ a)) ⊎ ((b < a) × (result ≡ b)) }
+    ensures { result ≡ min a b }
 {
     if a <= b { a } else { b }
 }

@@ -1,5 +1,5 @@
 -- A run along a plan is a run of the program that the plan means.
-use Rattle.std.proofs.Common.{◌≡◌, ◌≢◌, ℕ, ◌≤◌, List, Bool, Option, Result, Ok, Err, inl, inr, refl, sym, ap, subst, ◌∙◌, arith}
+use Rattle.std.proofs.Common.{◌≡◌, ℕ, ◌≤◌, Bool, true, false, Result, Ok, Err, inl, inr, refl, sym, ap, subst, ◌∙◌, arith}
 use Rattle.resin_meaning.specs.Under.base.Causes.{last_count}
 use Rattle.resin_meaning.specs.Under.base.TableStore.{columns_of, rows_of, next_number, after_create, after_insert, can_update, after_update, has_row, after_delete}
 use Rattle.resin_meaning.specs.Under.base.declared.faults.KeepFault.{KeepFault}
@@ -61,7 +61,7 @@ does_full (TakeRow name number) m f u le = does_unasked _ _ m f _ u.calls u.call
 -- ---- a plan
 
 -- calls that led along a plan led along its program
-pub leads_along : {A : Type 0} {p q : Steps A} {u v : Keeping} (m : State) (f : Seen LabelledFiles) → Leads p u q v → LeadsTo (carried_out p) (beside m f u) (carried_out q) (beside m f v)
+pub leads_along : {A : Type 0} {p : Steps A} {u : Keeping} (m : State) (f : Seen LabelledFiles) {q : Steps A} {v : Keeping} → Leads p u q v → LeadsTo (carried_out p) (beside m f u) (carried_out q) (beside m f v)
 leads_along m f here = leads_here _ _
 leads_along {p = p} {u = u} m f (behind {call = call} {next = next} {answer = answer} {v = v} {w = w} l c) =
     leads_next (carried_out p) (asked call) (λ a. carried_out (next a)) (leads_along m f l) (does_call call m f v w (Ok answer) c)

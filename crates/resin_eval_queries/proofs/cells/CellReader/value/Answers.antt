@@ -12,13 +12,13 @@ use Rattle.resin_eval_writes.proofs.eval_nested_lemmas.Exits.{does_is, does_seen
 use Rattle.resin_eval_queries.proofs.Values.{read_as_text}
 use Rattle.resin_eval_queries.proofs.cells.CellReader.value.Goals as goal
 
-pub returns-in_err : goal.returns-in_err
-returns-in_err g c =
+pub returns-in_err-first_set : goal.returns-in_err-first_set
+returns-in_err-first_set g c =
     does_is (ap (λ (v : Cell). read_value (evals c.args.self.now.by.now.room) c.args.column.now v c.args.text) c.in-Int.is) (does_seen_none _ _ _ c.from_residual.ensures.1)
 
 pub returns-in-Int : goal.returns-in-Int
 returns-in-Int g c =
-    does_is (ap (λ (v : Cell). read_value (evals c.args.self.now.by.now.room) c.args.column.now v c.args.text) c.in-Int.is) (does_given _ _ (ap (λ (s : NumberSet). integer _ s) c.in_ok.ensures))
+    does_is (ap (λ (v : Cell). read_value (evals c.args.self.now.by.now.room) c.args.column.now v c.args.text) c.in-Int.is) (does_given _ _ (ap (λ (s : NumberSet). integer _ s) c.in_ok-first_set.ensures))
 
 pub returns-in_default : goal.returns-in_default
 returns-in_default g c =
