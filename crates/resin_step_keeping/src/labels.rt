@@ -66,10 +66,12 @@ fn meet(
     if len == 0 {
         return Ok(());
     }
-    match set_at(sets, place) {
-        Some(set) => insert(met, set.clone()?),
-        None => Ok(()),
-    }
+    let Some(set) = set_at(sets, place) else {
+        return Ok(());
+    };
+    let copy = set.clone()?;
+    insert(met, copy)?;
+    Ok(())
 }
 
 // Puts a set last, unless it is there.

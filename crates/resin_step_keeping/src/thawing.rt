@@ -66,7 +66,8 @@ pub fn thaw_sets(alloc: Global, m: &mut Machine, runs: &FrozenRuns) -> Result<Ve
 {
     let parts = runs.parts(alloc)?;
     let policies = parts.policies.as_slice();
-    m.charge(policies.len() as u64)?;
+    let count = policies.len() as u64;
+    m.charge(count)?;
     let objects = thaw_policies(alloc, m, policies)?;
     let sets = distinct_labels(alloc, objects.as_slice(), &parts)?;
     Ok(sets)
