@@ -2,3 +2,4 @@ pub mod Joins
 pub mod Totals
 pub mod Joint
 pub mod Answers
+pub mod Readings

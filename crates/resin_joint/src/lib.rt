@@ -14,11 +14,15 @@
 #![tactic(auto)]
 
 mod joins;
+mod laws;
+mod listed;
 mod read;
 mod selects;
 mod totals;
 mod tree;
 
 pub use joins::table_of;
+pub use laws::joint_laws;
+pub use listed::more_literals;
 pub use read::read_more;
 pub use tree::{JoinStmt, MoreStmt, TotalItem, TotalStmt};

@@ -5,6 +5,7 @@ ghost use Rattle.resin_lstr.specs.Texts.{bytes_of};
 ghost use Rattle.resin_sql.specs.Places.{refusal};
 ghost use Rattle.resin_sql.specs.declared.fault.SqlFault.TheVariants.{Memory};
 ghost use Rattle.resin_joint.specs.Answers.{AnswersMore, IsMore, before_dot, start};
+ghost use Rattle.resin_joint.specs.Readings.{read_more_as};
 ghost use Rattle.resin_joint.specs.declared.tree.MoreStmt.{MoreStmt};
 
 use crate::selects::joint;
@@ -47,6 +48,7 @@ fn refusal(text: &[u8], left: usize, fault: Fault) -> SqlFault
 fn read_bytes(alloc: Global, text: &[u8]) -> Result<MoreStmt, SqlFault>
     ensures answers { AnswersMore text.now result }
     ensures found { (q : MoreStmt) → IsMore text.now q → (result ≡ Ok q) ⊎ (result ≡ Err Memory) }
+    ensures read { (result ≡ read_more_as text.now) ⊎ (result ≡ Err Memory) }
 {
     let mut bytes = ByteCursor::new(text);
     let found = joint(alloc, &mut bytes);
@@ -68,6 +70,7 @@ fn read_bytes(alloc: Global, text: &[u8]) -> Result<MoreStmt, SqlFault>
 pub fn read_more(alloc: Global, text: &LText) -> Result<MoreStmt, SqlFault>
     ensures answers { AnswersMore (bytes_of text.now) result }
     ensures found { (q : MoreStmt) → IsMore (bytes_of text.now) q → (result ≡ Ok q) ⊎ (result ≡ Err Memory) }
+    ensures read { (result ≡ read_more_as (bytes_of text.now)) ⊎ (result ≡ Err Memory) }
 {
     read_bytes(alloc, text.bytes())
 }

@@ -19,7 +19,10 @@
 mod condition;
 mod fault;
 mod labels;
+mod laws;
+mod listed;
 mod lists;
+mod messages;
 mod read;
 mod statement;
 mod tree;
@@ -27,6 +30,7 @@ mod tree;
 /// Readers of parts of statements, and of where words begin, for a grammar that has these statements and others.
 pub mod parts {
     pub use crate::condition::{Naming, column_of, with_table};
+    pub use crate::listed::where_literals;
     pub use crate::lists::{is_comma, more_names};
     pub use crate::read::last_start;
     pub use crate::statement::{
@@ -36,6 +40,9 @@ pub mod parts {
 
 pub use fault::{SqlFault, SqlRefusal, SqlStop};
 pub use labels::literal_text;
+pub use laws::sql_laws;
+pub use listed::literals;
+pub use messages::syntax_message;
 pub use read::read_sql;
 pub use resin_sql_words::{Literal, Span};
 pub use tree::{

@@ -6,6 +6,7 @@ ghost use Rattle.resin_sql.specs.declared.fault.SqlFault.TheVariants.{Memory};
 ghost use Rattle.resin_sql.specs.declared.tree.Stmt.{Stmt};
 ghost use Rattle.resin_sql.specs.Answers.{Answers, IsStatement, last_start, next_start};
 ghost use Rattle.resin_sql.specs.Places.{refusal};
+ghost use Rattle.resin_sql.specs.Readings.{read_as};
 
 use crate::fault::SqlFault;
 use crate::statement::statement;
@@ -60,6 +61,7 @@ fn refusal(text: &[u8], left: usize, fault: Fault) -> SqlFault
 fn read_bytes(alloc: Global, text: &[u8]) -> Result<Stmt, SqlFault>
     ensures answers { Answers text.now result }
     ensures found { (q : Stmt) → IsStatement text.now q → (result ≡ Ok q) ⊎ (result ≡ Err Memory) }
+    ensures read { (result ≡ read_as text.now) ⊎ (result ≡ Err Memory) }
 {
     let mut bytes = ByteCursor::new(text);
     let found = statement(alloc, &mut bytes);
@@ -81,6 +83,7 @@ fn read_bytes(alloc: Global, text: &[u8]) -> Result<Stmt, SqlFault>
 pub fn read_sql(alloc: Global, text: &LText) -> Result<Stmt, SqlFault>
     ensures answers { Answers (bytes_of text.now) result }
     ensures found { (q : Stmt) → IsStatement (bytes_of text.now) q → (result ≡ Ok q) ⊎ (result ≡ Err Memory) }
+    ensures read { (result ≡ read_as (bytes_of text.now)) ⊎ (result ≡ Err Memory) }
 {
     read_bytes(alloc, text.bytes())
 }

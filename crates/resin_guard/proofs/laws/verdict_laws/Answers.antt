@@ -1,0 +1,5 @@
+use Rattle.resin_guard.proofs.Queries.{query_is_guarded}
+use Rattle.resin_guard.proofs.laws.verdict_laws.Goals as goal
+
+pub returns : goal.returns
+returns c = query_is_guarded
