@@ -3,6 +3,7 @@ pub mod Endings
 pub mod Firsts
 pub mod Verdicts
 pub mod Judging
+pub mod Free
 pub mod Queries
 pub mod Runs
 pub mod Found

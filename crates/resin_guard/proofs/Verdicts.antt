@@ -1,4 +1,4 @@
--- What places judge is what a guard of pages answers.
+-- What a text is read as says what the guard of pages answers.
 use Rattle.std.proofs.Common.{◌≡◌, ◌-◌, ℕ, List, [], ◌∷◌, length, Result, Ok, Err, refl, sym, ap, subst, ◌∙◌}
 use Rattle.std.specs.Prelude.{IfOk}
 use Rattle.resin_form.specs.Reading.{Got, Stop}
@@ -16,25 +16,31 @@ use Rattle.resin_guard.specs.declared.page.PageFault.{PageFault}
 use Rattle.resin_guard.specs.declared.page.PageFault.TheVariants.{Syntax}
 use Rattle.resin_guard.specs.declared.judge.Guard.{Guard}
 use Rattle.resin_guard.specs.declared.judge.Guard.TheVariants.{Pass, Bad, Untrusted}
+use Rattle.resin_guard.proofs.Endings.{PageAnswers, page_answers}
+use Rattle.resin_guard.proofs.Free.{page_settled}
 use Rattle.resin_guard.proofs.Judging.{is_judged}
 
-module _ (bad : NumberSet) (d : Text) (places : Places) where
-  page_guard : (g : Guard) → IsPage (bytes_of d) places → IsJudged bad places d g → IsPageGuard bad d g
-  page_guard Pass p j = (places, p, j)
-  page_guard (Bad at) p j = absurd j
-  page_guard (Untrusted at) p j = (places, p, j)
-
-  pub of_page : {E : Type 0} (r : Result Guard E) → IsPage (bytes_of d) places → IfOk r (λ g. g ≡ judged bad places d) → IfOk r (λ g. IsPageGuard bad d g)
-  of_page (Ok g) p e = subst (IsPageGuard bad d) (sym e) (page_guard (judged bad places d) p (is_judged bad places d))
-  of_page (Err x) p e = tt
-
--- where the fault is one of the text, and not of memory
 module _ (bad : NumberSet) (d : Text) where
-  pub of_fault : {E : Type 0} (r : Result Guard E) (fault : PageFault) (at : ℕ) → IfOk r (λ g. (fault ≡ Syntax) × (g ≡ Bad at)) → (fault ≡ Syntax → IsPageGuard bad d (Bad at)) → IfOk r (λ g. IsPageGuard bad d g)
-  of_fault (Ok g) fault at h k = subst (IsPageGuard bad d) (sym h.1) (k h.0)
-  of_fault (Err e) fault at h k = tt
+  page_guard : (g : Guard) (places : Places) → IsPage (bytes_of d) places → IsJudged bad places d g → IsPageGuard bad d g
+  page_guard Pass places p j = (places, p, j)
+  page_guard (Bad at) places p j = absurd j
+  page_guard (Untrusted at) places p j = (places, p, j)
 
--- ---- the same as a function; `tokens`, `rest`: what the code holds
+  by_reading : (r : Result Places ℕ) → PageAnswers (bytes_of d) r → IsPageGuard bad d (page_verdict bad d r)
+  by_reading (Ok places) a = page_guard (judged bad places d) places a (is_judged bad places d)
+  by_reading (Err at) a = a
+
+  pub page_is_guarded : IsPageGuard bad d (html_verdict bad d)
+  unfolding html_verdict
+  page_is_guarded =
+      let ts = placed 0 (bytes_of d) in
+      by_reading (page_told (bytes_of d) (under (page []) ts)) (page_answers (bytes_of d) (under (page []) ts) refl (page_settled [] ts))
+
+  pub guards_page : {E : Type 0} (r : Result Guard E) → IfOk r (λ g. g ≡ html_verdict bad d) → IfOk r (λ g. IsPageGuard bad d g)
+  guards_page (Ok g) e = subst (IsPageGuard bad d) (sym e) page_is_guarded
+  guards_page (Err x) e = tt
+
+-- ---- what the code makes of it; `tokens`, `rest`: what it holds
 
 told_whole : (bytes : List ℕ) (places : Places) (rest : List Placed) → rest ≡ [] → page_told bytes (Got places rest) ≡ Ok places
 told_whole bytes places [] e = refl

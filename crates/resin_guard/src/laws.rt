@@ -2,10 +2,11 @@
 
 ghost use Rattle.resin_sql.specs.Answers.{IsStatement};
 ghost use Rattle.resin_guard.specs.Answers.{IsPage};
+ghost use Rattle.resin_guard.specs.Guards.{IsPageGuard};
 ghost use Rattle.resin_guard.specs.Items.{KeepsItems};
 ghost use Rattle.resin_guard.specs.Requoted.{KeepsStatement};
 ghost use Rattle.resin_guard.specs.Literals.{IsQueryGuard};
-ghost use Rattle.resin_guard.specs.Verdicts.{sql_verdict};
+ghost use Rattle.resin_guard.specs.Verdicts.{html_verdict, sql_verdict};
 ghost use Rattle.resin_label.specs.Sets.{NumberSet};
 ghost use Rattle.resin_lstr.specs.Texts.{Text};
 
@@ -18,7 +19,8 @@ pub fn shape_laws()
     ensures pages { KeepsItems IsPage }
 {}
 
-/// What the guard of queries answers, as a function of the text, is what it is to answer.
+/// What the guards answer, as functions of the text, is what they are to answer.
 pub fn verdict_laws()
-    ensures { (bad : NumberSet) (d : Text) → IsQueryGuard bad d (sql_verdict bad d) }
+    ensures queries { (bad : NumberSet) (d : Text) → IsQueryGuard bad d (sql_verdict bad d) }
+    ensures pages { (bad : NumberSet) (d : Text) → IsPageGuard bad d (html_verdict bad d) }
 {}

@@ -1,5 +1,6 @@
 use Rattle.resin_guard.proofs.Queries.{query_is_guarded}
+use Rattle.resin_guard.proofs.Verdicts.{page_is_guarded}
 use Rattle.resin_guard.proofs.laws.verdict_laws.Goals as goal
 
 pub returns : goal.returns
-returns c = query_is_guarded
+returns c = record { queries = query_is_guarded; pages = page_is_guarded }
