@@ -2,8 +2,8 @@ pub mod Exits
 pub mod Endings
 pub mod Firsts
 pub mod Verdicts
-pub mod Steps
-pub mod Conditions
+pub mod Judging
+pub mod Free
 pub mod Queries
 pub mod Runs
 pub mod Found

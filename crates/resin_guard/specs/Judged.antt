@@ -1,6 +1,6 @@
 -- Which bytes of a text stand outside of places, and what a guard says of it then.
 use Rattle.std.specs.Prelude.{◌≡◌, ℕ, ◌<◌, ◌≤◌, Bool, true, false, not, ◌&&◌, nat_lt, nat_le, length, get_or, Option, Some, None}
-use Rattle.std.specs.List.{list_any}
+use Rattle.std.specs.List.{list_any, find, range_with_len}
 use Rattle.resin_label.specs.Sets.{NumberSet, empty, contains, numbers}
 use Rattle.resin_lstr.specs.Texts.{Text, sets_of}
 use Rattle.resin_guard.specs.Pages.{Places}
@@ -33,3 +33,17 @@ abbrev pub IsJudged : NumberSet → Places → Text → Guard → Type 0
 IsJudged bad places d Pass = IsFirst (is_untrusted bad places d) 0 (length d) None
 IsJudged bad places d (Untrusted at) = IsFirst (is_untrusted bad places d) 0 (length d) (Some at)
 IsJudged bad places d (Bad at) = ⊥
+
+-- ---- the same as functions
+
+-- the offset of the first byte that is untrusted
+abbrev pub first_untrusted : NumberSet → Places → Text → Option ℕ
+first_untrusted bad places d = find (is_untrusted bad places d) (range_with_len 0 (length d))
+
+abbrev pub verdict_at : Option ℕ → Guard
+verdict_at None = Pass
+verdict_at (Some at) = Untrusted at
+
+-- what a guard says of a text whose harmless places are these
+abbrev pub judged : NumberSet → Places → Text → Guard
+judged bad places d = verdict_at (first_untrusted bad places d)

@@ -2,6 +2,7 @@
 
 ghost use Rattle.std.specs.Prelude.{◌≡◌, IfOk};
 ghost use Rattle.resin_guard.specs.Guards.{IsPageGuard};
+ghost use Rattle.resin_guard.specs.Verdicts.{html_verdict};
 ghost use Rattle.resin_guard.specs.declared.judge.Guard.TheVariants as verdict;
 ghost use Rattle.resin_guard.specs.declared.page.PageFault.TheVariants.{Syntax};
 
@@ -28,7 +29,8 @@ fn refused(fault: PageFault, offset: usize) -> Result<Guard, AllocError>
 ///
 /// `Bad` comes exactly where the text is no page of this crate's profile.
 pub fn html_guard(alloc: Global, text: &LText, bad: &PSet) -> Result<Guard, AllocError>
-    ensures { IfOk result (λ g. IsPageGuard bad.now text.now g) }
+    ensures guard { IfOk result (λ g. IsPageGuard bad.now text.now g) }
+    ensures verdict { IfOk result (λ g. g ≡ html_verdict bad.now text.now) }
 {
     let mut bytes = ByteCursor::new(text.bytes());
     let found = read_page(alloc, &mut bytes);

@@ -3,7 +3,7 @@
 ghost use Rattle.std.specs.Prelude.{◌≡◌, ℕ, ◌<◌, ◌≤◌, ◌&&◌, ◌||◌, not, false, min, length, get_or, IfOk, vec_len};
 ghost use Rattle.resin_label.specs.Sets.{empty};
 ghost use Rattle.resin_lstr.specs.Runs.{IsCoalesced, last_end, spell};
-ghost use Rattle.resin_guard.specs.Judged.{meets, in_range, is_inside, IsFirst, IsJudged};
+ghost use Rattle.resin_guard.specs.Judged.{meets, in_range, is_inside, IsFirst, judged};
 
 use resin_label::PSet;
 use resin_lstr::{LText, Run};
@@ -106,7 +106,7 @@ pub(crate) fn judged(
     bad: &PSet,
     places: &[(usize, usize)],
 ) -> Result<Guard, AllocError>
-    ensures { IfOk result (λ g. IsJudged bad.now places.now text.now g) }
+    ensures { IfOk result (λ g. g ≡ judged bad.now places.now text.now) }
 {
     let safe = covered(alloc, places, text.len())?;
     match first_untrusted(text.runs(), bad, &safe) {

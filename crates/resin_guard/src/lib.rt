@@ -15,6 +15,6 @@ mod tag;
 
 pub use html::html_guard;
 pub use judge::Guard;
-pub use laws::shape_laws;
+pub use laws::{shape_laws, verdict_laws};
 pub use literals::literal_spans;
 pub use query::sql_guard;

@@ -1,7 +1,8 @@
 //! The guard of queries.
 
-ghost use Rattle.std.specs.Prelude.{IfOk};
+ghost use Rattle.std.specs.Prelude.{◌≡◌, IfOk};
 ghost use Rattle.resin_guard.specs.Literals.{IsQueryGuard};
+ghost use Rattle.resin_guard.specs.Verdicts.{sql_verdict};
 
 use crate::judge::{Guard, judged};
 use crate::literals::literal_spans;
@@ -14,7 +15,8 @@ use std::alloc::{AllocError, Global};
 ///
 /// `Bad` comes exactly where [`read_sql`](resin_sql::read_sql) refuses the text, with its offset.
 pub fn sql_guard(alloc: Global, text: &LText, bad: &PSet) -> Result<Guard, AllocError>
-    ensures { IfOk result (λ g. IsQueryGuard bad.now text.now g) }
+    ensures guard { IfOk result (λ g. IsQueryGuard bad.now text.now g) }
+    ensures verdict { IfOk result (λ g. g ≡ sql_verdict bad.now text.now) }
 {
     match literal_spans(alloc, text) {
         Ok(places) => judged(alloc, text, bad, places.as_slice()),

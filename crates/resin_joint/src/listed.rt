@@ -5,8 +5,8 @@ ghost use Rattle.resin_joint.specs.Readings as spec;
 
 use crate::tree::MoreStmt;
 use resin_items::Items;
-use resin_sql::parts::where_literals;
 use resin_sql::literals;
+use resin_sql::parts::where_literals;
 use resin_sql_words::Literal;
 use std::alloc::{AllocError, Global};
 
