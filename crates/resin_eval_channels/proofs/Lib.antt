@@ -1,5 +1,5 @@
 pub mod Holding
-pub mod Unbuilt
+pub mod Unfit
 pub mod Values
 -- Passed on to the crates above, which list this one alone.
 pub use Rattle.resin_eval_queries.proofs.eval_nested_lemmas

@@ -37,8 +37,8 @@ use resin_eval_queries::under::value::{Value, Values};
 use resin_eval_queries::under::eval_writes::writes::Writer;
 use std::alloc::{AllocError, Global};
 
-// What is not built yet.
-fn unbuilt<A>(m: &Machine) -> Result<A, Stop>
+// Values that are not of the kinds that a function takes, or are too few; none such reach the work of a call.
+fn unfit<A>(m: &Machine) -> Result<A, Stop>
     ensures { result ≡ Err (Fault UndefinedFunction m.now.line) }
 {
     Err(m.fault(ScriptFault::UndefinedFunction))
@@ -108,7 +108,7 @@ impl<
     {
         match args {
             [n, ..] => self.set_status(run, n),
-            [] => unbuilt(&run.machine),
+            [] => unfit(&run.machine),
         }
     }
 
@@ -118,10 +118,10 @@ impl<
         ensures { Performs F.Files T.Tables (form.channel_work (means self.now.by.now) Header (trees_of args.now)) run.old (on_ok tree_of result) run.new }
     {
         let [line, rest @ ..] = args else {
-            return unbuilt(&run.machine);
+            return unfit(&run.machine);
         };
         let Value::Text(line) = line else {
-            return unbuilt(&run.machine);
+            return unfit(&run.machine);
         };
         let context = Value::Arr(context_of(self.by.alloc, b"header")?);
         let what = Outgoing::Header(flag_in(rest));
@@ -166,11 +166,11 @@ impl<
             Value::Text(to) => match subject {
                 Value::Text(subject) => match message {
                     Value::Text(message) => self.leave_mail(run, to, subject, message),
-                    _ => unbuilt(&run.machine),
+                    _ => unfit(&run.machine),
                 },
-                _ => unbuilt(&run.machine),
+                _ => unfit(&run.machine),
             },
-            _ => unbuilt(&run.machine),
+            _ => unfit(&run.machine),
         }
     }
 
@@ -181,7 +181,7 @@ impl<
     {
         match args {
             [to, subject, message, ..] => self.mail_of(run, to, subject, message),
-            _ => unbuilt(&run.machine),
+            _ => unfit(&run.machine),
         }
     }
 
@@ -205,13 +205,13 @@ impl<
         ensures { Performs F.Files T.Tables (form.channel_work (means self.now.by.now) FilePutContents (trees_of args.now)) run.old (on_ok tree_of result) run.new }
     {
         let [path, data, rest @ ..] = args else {
-            return unbuilt(&run.machine);
+            return unfit(&run.machine);
         };
         let Value::Text(path) = path else {
-            return unbuilt(&run.machine);
+            return unfit(&run.machine);
         };
         let Value::Text(data) = data else {
-            return unbuilt(&run.machine);
+            return unfit(&run.machine);
         };
         Shelf { by: self.by }.put_contents(run, path.bytes(), data, flags_in(rest))
     }
@@ -222,10 +222,10 @@ impl<
         ensures { Performs F.Files T.Tables (form.channel_work (means self.now.by.now) FileGetContents (trees_of args.now)) run.old (on_ok tree_of result) run.new }
     {
         let [path, ..] = args else {
-            return unbuilt(&run.machine);
+            return unfit(&run.machine);
         };
         let Value::Text(path) = path else {
-            return unbuilt(&run.machine);
+            return unfit(&run.machine);
         };
         Shelf { by: self.by }.get_contents(run, path.bytes())
     }
@@ -235,10 +235,10 @@ impl<
         ensures { Performs F.Files T.Tables (form.channel_work (means self.now.by.now) Unlink (trees_of args.now)) run.old (on_ok tree_of result) run.new }
     {
         let [path, ..] = args else {
-            return unbuilt(&run.machine);
+            return unfit(&run.machine);
         };
         let Value::Text(path) = path else {
-            return unbuilt(&run.machine);
+            return unfit(&run.machine);
         };
         unlink(run, path.bytes())
     }
@@ -248,10 +248,10 @@ impl<
         ensures { Performs F.Files T.Tables (form.channel_work (means self.now.by.now) FileExists (trees_of args.now)) run.old (on_ok tree_of result) run.new }
     {
         let [path, ..] = args else {
-            return unbuilt(&run.machine);
+            return unfit(&run.machine);
         };
         let Value::Text(path) = path else {
-            return unbuilt(&run.machine);
+            return unfit(&run.machine);
         };
         exists(run, path.bytes())
     }
@@ -262,10 +262,10 @@ impl<
         ensures { Performs F.Files T.Tables (form.channel_work (means self.now.by.now) SqlQuery (trees_of args.now)) run.old (on_ok tree_of result) run.new }
     {
         let [query, ..] = args else {
-            return unbuilt(&run.machine);
+            return unfit(&run.machine);
         };
         let Value::Text(query) = query else {
-            return unbuilt(&run.machine);
+            return unfit(&run.machine);
         };
         Querier { by: self.by }.sql_query(run, query)
     }
@@ -307,8 +307,8 @@ impl<
     /// ChannelInCheck comes first, where a check, a merge or a filter that the runtime called makes the call, unless the function only looks. Then another count of
     /// arguments throws ArgumentCountError; the arguments are turned into their kinds from the left; the texts among them are charged; then comes the work; and the text that
     /// it gives is charged. ValueError is thrown for a status that may not be set, for a header line that sets no header, and for a mail whose address or subject has more
-    /// than one line. What leaves asks its filters and its policies, which may throw. A file that is read or written stops as `Shelf` says. UndefinedFunction comes for the functions of
-    /// tables, which aren't built yet.
+    /// than one line. What leaves asks its filters and its policies, which may throw. A file that is read or written stops as `Shelf`
+    /// says, a statement over tables as `Querier` does.
     pub fn channel_function(
         &self,
         run: &mut Run<F, T>,

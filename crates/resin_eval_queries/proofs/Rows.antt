@@ -1,5 +1,6 @@
 -- Rows and items, one cell after the other.
-use Rattle.std.proofs.Common.{◌≡◌, ℕ, ◌+◌, ◌<◌, ◌≤◌, Bool, true, false, nat_le, min, List, [], ◌∷◌, ◌⊎◌, inl, inr, length, drop, get_or, refl, sym, ap, ◌∙◌, arith, Result, IsErrAnd}
+use Rattle.std.proofs.Common.{◌≡◌, ℕ, ◌+◌, ◌<◌, ◌≤◌, Bool, true, false, nat_le, min, List, [], ◌∷◌, ◌⊎◌, inl, inr, length, drop, get_or, refl, sym, ap, ◌∙◌, arith, Result, IsErrAnd, Some, None}
+use Rattle.std.specs.Prelude.{IsTrue, is_none}
 use Rattle.std.proofs.lemmas.Bool.Decides.{nat_tests}
 use Rattle.resin_eval_writes.specs.Under.base.declared.stored.StoredCell.{StoredCell}
 use Rattle.resin_eval_writes.specs.Under.meaning.Programs.{give, ◌>>=◌}
@@ -7,6 +8,8 @@ use Rattle.resin_eval_writes.specs.Under.meaning_forms.Parts.{Evals}
 use Rattle.resin_eval_writes.specs.Under.meaning_forms.Queries.{row_on, rows_on, with_cell}
 use Rattle.resin_eval_writes.specs.Under.meaning_forms.Totals.{items_on, with_item}
 use Rattle.resin_eval_writes.specs.Under.value.Arrays.{Array}
+use Rattle.resin_eval_writes.specs.Under.value.Keys.{is_lawful, key_or_text, text_key}
+use Rattle.resin_eval_writes.specs.Under.value.Under.bytes.Canonical.{canonical_integer}
 use Rattle.resin_eval_writes.specs.Under.machine.declared.stop.Stop.{Stop}
 use Rattle.resin_eval_writes.specs.Under.machine.declared.stop.Stop.TheVariants.{Memory}
 use Rattle.resin_eval_writes.specs.Under.meaning.Runs.{World, Does}
@@ -75,3 +78,13 @@ ended_at a b i h = by (nat_le a b) refl
     by : (t : Bool) → nat_le a b ≡ t → (a ≤ i) ⊎ (b ≤ i)
     by true e = inl (let le : a ≤ b = grind (arith, nat_tests) in omega (arith, le, h))
     by false e = inr (let lt : b < a = grind (arith, nat_tests) in omega (arith, lt, h))
+
+-- ---- keys
+
+-- the key of a name may stand in an array
+pub lawful_key : (b : List ℕ) → IsTrue (is_lawful (text_key b))
+lawful_key b =
+    elim (canonical_integer b) as (λ o. canonical_integer b ≡ o → IsTrue (is_lawful (key_or_text o b))) [
+      | None ↦ λ e. ap is_none e
+      | Some n ↦ λ e. refl
+    ] refl

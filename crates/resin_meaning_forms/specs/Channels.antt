@@ -81,9 +81,9 @@ mail_context to = Arr (put (TextKey (codes "email")) (text to) (put (TextKey (co
 
 -- ---- the calls
 
--- no call is made of what isn't built yet
-abbrev pub unbuilt : {A : Type 0} → Prog A
-unbuilt = faulted UndefinedFunction
+-- values that aren't of the kinds that a function takes, or are too few; none such reach the work of a call
+abbrev pub unfit : {A : Type 0} → Prog A
+unfit = faulted UndefinedFunction
 
 -- the arguments that must stand, and those that may be left out
 abbrev pub needed : ChannelFunction → List ArgKind
@@ -128,7 +128,7 @@ channel_work ev FileGetContents (text path ∷ ts) = get_contents ev (bytes_of p
 channel_work ev Unlink (text path ∷ ts) = unlink (bytes_of path)
 channel_work ev FileExists (text path ∷ ts) = exists (bytes_of path)
 channel_work ev SqlQuery (text query ∷ ts) = sql_query ev query
-channel_work ev f ts = unbuilt
+channel_work ev f ts = unfit
 
 -- files may be read in a check
 abbrev pub only_looks : ChannelFunction → Bool
