@@ -16,25 +16,25 @@ ghost use Rattle.std.specs.Prelude.{Err, IfOk, [], decimal, if◌then◌else◌,
 
 use crate::files::{Shelf, exists, flags_in, unlink};
 use resin_eval_queries::queries::Querier;
-use resin_eval_queries::under::eval_functions::arguments::Builtins;
-use resin_eval_queries::under::step_functions::functions::miscounted;
-use resin_eval_queries::under::eval_writes::leaving::{context_of, text_key, with_text};
 use resin_eval_queries::under::base::{Files, Tables};
+use resin_eval_queries::under::eval_functions::arguments::Builtins;
 use resin_eval_queries::under::eval_nested::nested::{Evaluator, Nested, Outcome};
 use resin_eval_queries::under::eval_nested::run::Run;
+use resin_eval_queries::under::eval_writes::leaving::{context_of, text_key, with_text};
+use resin_eval_queries::under::eval_writes::writes::Writer;
 use resin_eval_queries::under::heap::PreludeClass;
 use resin_eval_queries::under::lstr::LText;
 use resin_eval_queries::under::machine::{Machine, Stop};
 use resin_eval_queries::under::meaning_forms::{ChannelFunction, Outgoing};
 use resin_eval_queries::under::ops::to_text;
 use resin_eval_queries::under::scalar::ScriptFault;
+use resin_eval_queries::under::step_functions::functions::miscounted;
 use resin_eval_queries::under::step_parts::channels::{
     channel_kinds, flag_in, is_one_line, needed, only_looks,
 };
 use resin_eval_queries::under::step_parts::operators::{charge_all, given};
 use resin_eval_queries::under::step_parts::reads::number;
 use resin_eval_queries::under::value::{Value, Values};
-use resin_eval_queries::under::eval_writes::writes::Writer;
 use std::alloc::{AllocError, Global};
 
 // Values that are not of the kinds that a function takes, or are too few; none such reach the work of a call.

@@ -10,22 +10,22 @@ ghost use Rattle.std.specs.Ordering.{int_eq};
 ghost use Rattle.resin_eval_channels.specs.Held.{IsHeld, marked};
 ghost use Rattle.std.specs.Prelude.{IfOk, length, ◌++◌, ◌≡◌};
 
-use resin_eval_queries::under::eval_writes::reading::{Reader, path_context};
 use resin_eval_queries::under::base::{Entry, Files, Tables};
 use resin_eval_queries::under::bytes::{Bytes, lawful_path};
 use resin_eval_queries::under::eval_nested::nested::{Evaluator, Nested, Outcome};
 use resin_eval_queries::under::eval_nested::run::Run;
+use resin_eval_queries::under::eval_writes::reading::{Reader, path_context};
 use resin_eval_queries::under::heap::PreludeClass;
 use resin_eval_queries::under::journal::Channel;
 use resin_eval_queries::under::lstr::{LONGEST, LText};
 use resin_eval_queries::under::machine::{Machine, Stop};
 use resin_eval_queries::under::scalar::ScriptFault;
-use resin_eval_queries::under::step_parts::reads::number;
-use resin_eval_queries::under::store::policies_of;
-use resin_eval_queries::under::value::Value;
 use resin_eval_queries::under::shadow::{FrozenRuns, encode};
 use resin_eval_queries::under::step_keeping::freezing::freeze_text;
 use resin_eval_queries::under::step_keeping::thawing::thaw_entry;
+use resin_eval_queries::under::step_parts::reads::number;
+use resin_eval_queries::under::store::policies_of;
+use resin_eval_queries::under::value::Value;
 use std::alloc::{AllocError, Global};
 
 /// FILE_APPEND

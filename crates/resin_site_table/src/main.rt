@@ -132,15 +132,7 @@ fn answer(
     };
     match next_request(alloc, text.as_bytes())? {
         Step::Got { request, .. } => {
-            let outcome = serve_one(
-                alloc,
-                site,
-                &request,
-                number,
-                files,
-                tables,
-                &mut calls,
-            )?;
+            let outcome = serve_one(alloc, site, &request, number, files, tables, &mut calls)?;
             shown(alloc, number, &outcome, &calls)
         }
         Step::Refuse { status } => shown_refusal(alloc, status),

@@ -55,12 +55,7 @@ fn distinct_sets(
 }
 
 // Puts the set of a run last, unless it is there. A run without bytes has none.
-fn meet(
-    met: &mut IndexSet<PSet>,
-    sets: &[PSet],
-    len: u64,
-    place: usize,
-) -> Result<(), AllocError>
+fn meet(met: &mut IndexSet<PSet>, sets: &[PSet], len: u64, place: usize) -> Result<(), AllocError>
     ensures { OnOk result (met.new.keys ≡ fold (insert_key same) met.old.keys (run_spelled sets.now (len, place))) }
 {
     if len == 0 {
