@@ -1,7 +1,7 @@
-pub mod Reads
+pub mod CellLemmas
 pub mod Refusals
-pub mod Rows
-pub mod Totals
+pub mod RowLemmas
+pub mod TotalLemmas
 pub mod Values
 -- Passed on to the crates above, which list this one alone.
 pub use Rattle.resin_eval_writes.proofs.eval_nested_lemmas

@@ -3,5 +3,5 @@ pub mod Answers_of
 pub mod Freezes
 pub mod Distinct
 pub mod Labelling
-pub mod Met
+pub mod MetSets
 pub mod Thaws

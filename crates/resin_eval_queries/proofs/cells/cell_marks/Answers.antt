@@ -3,7 +3,7 @@ use Rattle.resin_eval_writes.specs.Under.meaning_forms.Cells.{whole_marks}
 use Rattle.resin_eval_writes.specs.Under.store.Entries.{LabelledEntry}
 use Rattle.resin_eval_writes.proofs.eval_nested_lemmas.Arms.{does_faulted}
 use Rattle.resin_eval_writes.proofs.eval_nested_lemmas.Exits.{does_is}
-use Rattle.resin_eval_queries.proofs.Reads.{marks_damaged, marks_lost}
+use Rattle.resin_eval_queries.proofs.CellLemmas.{marks_damaged, marks_lost}
 use Rattle.resin_eval_queries.proofs.cells.cell_marks.Goals as goal
 
 pub returns-in_err-entry_for : goal.returns-in_err-entry_for

@@ -2,7 +2,7 @@ use Rattle.std.proofs.Common.{ap, arith, length, sym, ◌∙◌}
 use Rattle.resin_eval_writes.proofs.eval_nested_lemmas.Arms.{does_faulted}
 use Rattle.resin_eval_writes.proofs.eval_nested_lemmas.Exits.{does_is}
 use Rattle.resin_eval_writes.proofs.meaning_lemmas.Composition.{does_give}
-use Rattle.resin_eval_queries.proofs.Reads.{marks_bad, marks_good, marks_long, marks_lost}
+use Rattle.resin_eval_queries.proofs.CellLemmas.{marks_bad, marks_good, marks_long, marks_lost}
 use Rattle.resin_eval_queries.proofs.cells.entry_marks.Goals as goal
 
 pub returns-then-len-gt-LONGEST : goal.returns-then-len-gt-LONGEST

@@ -4,7 +4,7 @@ use Rattle.resin_eval_writes.specs.Under.store.Entries.{LabelledEntry}
 use Rattle.resin_eval_writes.proofs.eval_nested_lemmas.Arms.{does_faulted}
 use Rattle.resin_eval_writes.proofs.eval_nested_lemmas.Exits.{does_is}
 use Rattle.resin_eval_queries.specs.Cells.{IsReadAs}
-use Rattle.resin_eval_queries.proofs.Reads.{thaw_damaged, thaw_lost}
+use Rattle.resin_eval_queries.proofs.CellLemmas.{thaw_damaged, thaw_lost}
 use Rattle.resin_eval_queries.proofs.cells.thaw_cell.Goals as goal
 
 pub returns-in_err-entry_for : goal.returns-in_err-entry_for

@@ -1,6 +1,6 @@
 use Rattle.resin_eval_writes.proofs.eval_nested_lemmas.Arms.{does_settled}
 use Rattle.resin_eval_writes.proofs.step_parts_lemmas.Steps.{does_lost_act}
-use Rattle.resin_eval_queries.proofs.Rows.{lawful_key}
+use Rattle.resin_eval_queries.proofs.RowLemmas.{lawful_key}
 use Rattle.resin_eval_queries.proofs.rows.with_named.Goals as goal
 
 pub with_entry-requires : goal.with_entry-requires

@@ -5,7 +5,7 @@ use Rattle.resin_eval_writes.specs.Under.meaning_tables.Under.sql_more.Values.{i
 use Rattle.resin_eval_writes.proofs.eval_nested_lemmas.Arms.{does_faulted}
 use Rattle.resin_eval_writes.proofs.eval_nested_lemmas.Exits.{does_is}
 use Rattle.resin_eval_writes.proofs.meaning_lemmas.Composition.{does_give}
-use Rattle.resin_eval_queries.proofs.Totals.{item_is, item_lost, item_overflows, item_too_long}
+use Rattle.resin_eval_queries.proofs.TotalLemmas.{item_is, item_lost, item_overflows, item_too_long}
 use Rattle.resin_eval_queries.proofs.totals.value_of.Goals as goal
 
 pub returns-then-chosen-gt-MOST : goal.returns-then-chosen-gt-MOST

@@ -1,6 +1,6 @@
 use Rattle.std.proofs.Common.{◌≡◌, get_or, sym}
 use Rattle.resin_step_keeping.proofs.Labelling.{get_same}
-use Rattle.resin_step_keeping.proofs.Met.{met_begins, met_more, met_done}
+use Rattle.resin_step_keeping.proofs.MetSets.{met_begins, met_more, met_done}
 use Rattle.resin_shadow.specs.Parts.{spelled_by}
 use Rattle.resin_step_keeping.proofs.labels.distinct_sets.Goals as goal
 

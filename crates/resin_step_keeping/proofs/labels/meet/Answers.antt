@@ -2,7 +2,7 @@ use Rattle.std.proofs.Common.{arith, sym, ap, ◌∙◌}
 use Rattle.std.specs.Prelude.{option_copied}
 use Rattle.indexmap.specs.IndexSet.{insert_key}
 use Rattle.resin_step_parts.specs.Under.label.Sets.{same}
-use Rattle.resin_step_keeping.proofs.Met.{met_absent, met_none, met_one}
+use Rattle.resin_step_keeping.proofs.MetSets.{met_absent, met_none, met_one}
 use Rattle.resin_step_keeping.proofs.labels.meet.Goals as goal
 
 pub returns-then-len-eq0 : goal.returns-then-len-eq0

@@ -1,5 +1,5 @@
 use Rattle.std.proofs.Common.{ap, length, ◌∙◌}
-use Rattle.resin_step_keeping.proofs.Met.{sets_charge_stops, sets_lost, sets_made, sets_met, sets_stop, sets_unbegun}
+use Rattle.resin_step_keeping.proofs.MetSets.{sets_charge_stops, sets_lost, sets_made, sets_met, sets_stop, sets_unbegun}
 use Rattle.resin_step_keeping.proofs.thawing.thaw_sets.Goals as goal
 
 pub returns-in_err-parts : goal.returns-in_err-parts

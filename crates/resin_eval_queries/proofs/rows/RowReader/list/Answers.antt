@@ -1,6 +1,6 @@
 use Rattle.resin_eval_writes.specs.Under.meaning_forms.Programs.{evals}
 use Rattle.resin_eval_writes.proofs.meaning_lemmas.Composition.{does_exit, does_give, does_next, front, leads_here, nothing_left}
-use Rattle.resin_eval_queries.proofs.Rows.{rows_lost}
+use Rattle.resin_eval_queries.proofs.RowLemmas.{rows_lost}
 use Rattle.resin_eval_queries.proofs.rows.RowReader.list.Goals as goal
 
 pub returns-in_err-list : goal.returns-in_err-list

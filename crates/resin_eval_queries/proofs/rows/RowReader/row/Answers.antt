@@ -2,7 +2,7 @@ use Rattle.std.proofs.Common.{arith}
 use Rattle.resin_eval_writes.specs.Under.meaning_forms.Programs.{evals}
 use Rattle.resin_eval_writes.proofs.eval_nested_lemmas.Exits.{does_is}
 use Rattle.resin_eval_writes.proofs.meaning_lemmas.Composition.{does_exit, does_give, does_next, does_unbegun_exit, leads_here}
-use Rattle.resin_eval_queries.proofs.Rows.{ended_at, row_end, row_lost, row_step}
+use Rattle.resin_eval_queries.proofs.RowLemmas.{ended_at, row_end, row_lost, row_step}
 use Rattle.resin_eval_queries.proofs.rows.RowReader.row.Goals as goal
 
 pub returns-in_err-row : goal.returns-in_err-row

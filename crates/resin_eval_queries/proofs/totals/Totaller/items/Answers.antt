@@ -2,7 +2,7 @@ use Rattle.std.proofs.Common.{arith}
 use Rattle.resin_eval_writes.specs.Under.meaning_forms.Programs.{evals}
 use Rattle.resin_eval_writes.proofs.eval_nested_lemmas.Exits.{does_is}
 use Rattle.resin_eval_writes.proofs.meaning_lemmas.Composition.{does_exit, does_give, does_next, leads_here}
-use Rattle.resin_eval_queries.proofs.Rows.{ended_at, item_step, items_end, items_lost}
+use Rattle.resin_eval_queries.proofs.RowLemmas.{ended_at, item_step, items_end, items_lost}
 use Rattle.resin_eval_queries.proofs.totals.Totaller.items.Goals as goal
 
 pub returns-in_err-row : goal.returns-in_err-row
