@@ -5,7 +5,7 @@ use Rattle.resin_shadow.specs.Parts.{spelled_by}
 use Rattle.resin_step_keeping.proofs.labels.distinct_sets.Goals as goal
 
 pub loop-len-init : goal.loop-len-init
-loop-len-init c = rw c.new-met.ensures.keys (met_begins (spelled_by c.args.sets.now c.args.runs.now))
+loop-len-init c = rw c.new-met.ensures.empty (met_begins (spelled_by c.args.sets.now c.args.runs.now))
 
 pub loop-len-preserved : goal.loop-len-preserved
 loop-len-preserved c =
