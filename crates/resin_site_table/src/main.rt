@@ -181,6 +181,7 @@ fn push_line(out: &mut String, line: &str) -> Result<(), AllocError> {
 }
 
 /// A site under way: what it has kept, and the number of its next request.
+#[derive(Drop)]
 struct Served {
     site: Site,
     files: FakeFiles,
