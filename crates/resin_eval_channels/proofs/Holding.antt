@@ -6,26 +6,26 @@ use Rattle.std.specs.Option.{option_map, option_and_then}
 use Rattle.std.proofs.lemmas.List.{length-map}
 use Rattle.std.proofs.lemmas.Result.{err_from_is_err_and}
 use Rattle.std.proofs.lemmas.Slice.Zip.{firsts-zip, seconds-zip}
-use Rattle.resin_shadow.specs.Marks.{Marks, AreMarks}
-use Rattle.resin_shadow.specs.Shadows.{written2}
-use Rattle.resin_eval_writes.specs.Under.store.Entries.{Marked, LabelledEntry, Good, Bad, plain, plain_bytes, marks, marks_in, lift, AreWritten}
-use Rattle.resin_eval_writes.proofs.meaning_lemmas.OneCall.{kept_entry}
-use Rattle.resin_eval_writes.specs.Under.base.declared.calls.Calls.{Calls}
-use Rattle.resin_eval_writes.specs.Under.base.declared.files.Entry.{Entry}
-use Rattle.resin_eval_writes.specs.Under.lstr.declared.limits.TheConstants.{LONGEST}
-use Rattle.resin_eval_writes.specs.Under.lstr.Texts.{Text as LabelledText, bytes_of}
-use Rattle.resin_eval_writes.specs.Under.scalar.declared.faults.ScriptFault.{ScriptFault}
-use Rattle.resin_eval_writes.specs.Under.scalar.declared.faults.ScriptFault.TheVariants.{BadShadow, TextTooLong, NotStorable}
-use Rattle.resin_eval_writes.specs.Under.machine.declared.stop.Stop.{Stop}
-use Rattle.resin_eval_writes.specs.Under.machine.declared.stop.Stop.TheVariants.{Fault, Memory}
-use Rattle.resin_eval_writes.specs.Under.machine.State.{State}
-use Rattle.resin_eval_writes.specs.Under.meaning.Programs.{Whole, Prog, give, then_by, ◌>>=◌, act}
-use Rattle.resin_eval_writes.specs.Under.meaning.Runs.{World, Does, seen, done}
-use Rattle.resin_eval_writes.specs.Under.meaning_forms.Files.{behind_held, longer}
-use Rattle.resin_eval_writes.specs.Under.meaning_forms.Keeping.{each_of, frozen_marks, or_not_storable, freeze_text}
-use Rattle.resin_eval_writes.specs.Under.meaning_forms.Parts.{faulted}
-use Rattle.resin_eval_writes.specs.Under.meaning_forms.Runs.{Runs, on_ok}
-use Rattle.resin_eval_writes.proofs.meaning_lemmas.Composition.{does_nothing}
+use Rattle.resin_eval_queries.specs.Under.shadow.Marks.{Marks, AreMarks}
+use Rattle.resin_eval_queries.specs.Under.shadow.Shadows.{written2}
+use Rattle.resin_eval_queries.specs.Under.store.Entries.{Marked, LabelledEntry, Good, Bad, plain, plain_bytes, marks, marks_in, lift, AreWritten}
+use Rattle.resin_eval_queries.proofs.meaning_lemmas.OneCall.{kept_entry}
+use Rattle.resin_eval_queries.specs.Under.base.declared.calls.Calls.{Calls}
+use Rattle.resin_eval_queries.specs.Under.base.declared.files.Entry.{Entry}
+use Rattle.resin_eval_queries.specs.Under.lstr.declared.limits.TheConstants.{LONGEST}
+use Rattle.resin_eval_queries.specs.Under.lstr.Texts.{Text as LabelledText, bytes_of}
+use Rattle.resin_eval_queries.specs.Under.scalar.declared.faults.ScriptFault.{ScriptFault}
+use Rattle.resin_eval_queries.specs.Under.scalar.declared.faults.ScriptFault.TheVariants.{BadShadow, TextTooLong, NotStorable}
+use Rattle.resin_eval_queries.specs.Under.machine.declared.stop.Stop.{Stop}
+use Rattle.resin_eval_queries.specs.Under.machine.declared.stop.Stop.TheVariants.{Fault, Memory}
+use Rattle.resin_eval_queries.specs.Under.machine.State.{State}
+use Rattle.resin_eval_queries.specs.Under.meaning.Programs.{Whole, Prog, give, then_by, ◌>>=◌, act}
+use Rattle.resin_eval_queries.specs.Under.meaning.Runs.{World, Does, seen, done}
+use Rattle.resin_eval_queries.specs.Under.meaning_forms.Files.{behind_held, longer}
+use Rattle.resin_eval_queries.specs.Under.meaning_forms.Keeping.{each_of, frozen_marks, or_not_storable, freeze_text}
+use Rattle.resin_eval_queries.specs.Under.meaning_forms.Parts.{faulted}
+use Rattle.resin_eval_queries.specs.Under.meaning_forms.Runs.{Runs, on_ok}
+use Rattle.resin_eval_queries.proofs.meaning_lemmas.Composition.{does_nothing}
 use Rattle.resin_eval_channels.specs.declared.files.Held.{Held}
 use Rattle.resin_eval_channels.specs.Held.{marked, IsHeld}
 

@@ -1,6 +1,6 @@
 -- Bytes that are to be held, with their policies, as the code has them.
 use Rattle.std.specs.Prelude.{◌≡◌, length, zip}
-use Rattle.resin_eval_writes.specs.Under.store.Entries.{Marked}
+use Rattle.resin_eval_queries.specs.Under.store.Entries.{Marked}
 use Rattle.resin_eval_channels.specs.declared.files.Held.{Held}
 
 -- the bytes, each with its policies

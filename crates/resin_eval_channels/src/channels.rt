@@ -1,43 +1,44 @@
-//! Functions of channels once their arguments are evaluated: headers, the status, mail, output buffers and files.
-ghost use Rattle.resin_eval_writes.specs.Under.meaning_forms.Channels.{flushed, is_count, is_one_line, is_open, leave_status, mail_context, only_looks, status_in, text_or_false};
-ghost use Rattle.resin_eval_writes.specs.Under.meaning_forms.Forms as form;
-ghost use Rattle.resin_eval_writes.specs.Under.meaning_forms.Runs.{Runs, on_ok};
-ghost use Rattle.resin_eval_writes.specs.Under.meaning_forms.declared.callee.ChannelFunction.TheVariants.{FileExists, FileGetContents, FilePutContents, Header, Mail, ResponseCode, Unlink};
-ghost use Rattle.resin_eval_writes.specs.Under.eval_nested.Nested.{Nests, means};
-ghost use Rattle.resin_eval_writes.specs.Under.eval_nested.Running.{Performs};
-ghost use Rattle.resin_eval_writes.specs.Under.lstr.Texts.{bytes_of};
-ghost use Rattle.resin_eval_writes.specs.Under.machine.Steps.{awake};
-ghost use Rattle.resin_eval_writes.specs.Under.machine.declared.stop.Stop.TheVariants.{Fault};
-ghost use Rattle.resin_eval_writes.specs.Under.meaning.Programs.{act, give};
-ghost use Rattle.resin_eval_writes.specs.Under.scalar.declared.faults.ScriptFault.TheVariants.{UndefinedFunction};
-ghost use Rattle.resin_eval_writes.specs.Under.value.Seen.{tree_of, trees_of};
-ghost use Rattle.resin_eval_writes.specs.Under.value.Trees.{text as text_tree};
+//! Functions of channels once their arguments are evaluated: headers, the status, mail, output buffers, files and tables.
+ghost use Rattle.resin_eval_queries.specs.Under.meaning_forms.Channels.{flushed, is_count, is_one_line, is_open, leave_status, mail_context, only_looks, status_in, text_or_false};
+ghost use Rattle.resin_eval_queries.specs.Under.meaning_forms.Forms as form;
+ghost use Rattle.resin_eval_queries.specs.Under.meaning_forms.Runs.{Runs, on_ok};
+ghost use Rattle.resin_eval_queries.specs.Under.meaning_forms.declared.callee.ChannelFunction.TheVariants.{FileExists, FileGetContents, FilePutContents, Header, Mail, ResponseCode, SqlQuery, Unlink};
+ghost use Rattle.resin_eval_queries.specs.Under.eval_nested.Nested.{Nests, means};
+ghost use Rattle.resin_eval_queries.specs.Under.eval_nested.Running.{Performs};
+ghost use Rattle.resin_eval_queries.specs.Under.lstr.Texts.{bytes_of};
+ghost use Rattle.resin_eval_queries.specs.Under.machine.Steps.{awake};
+ghost use Rattle.resin_eval_queries.specs.Under.machine.declared.stop.Stop.TheVariants.{Fault};
+ghost use Rattle.resin_eval_queries.specs.Under.meaning.Programs.{act, give};
+ghost use Rattle.resin_eval_queries.specs.Under.scalar.declared.faults.ScriptFault.TheVariants.{UndefinedFunction};
+ghost use Rattle.resin_eval_queries.specs.Under.value.Seen.{tree_of, trees_of};
+ghost use Rattle.resin_eval_queries.specs.Under.value.Trees.{text as text_tree};
 ghost use Rattle.std.specs.Prelude.{Err, IfOk, [], decimal, if◌then◌else◌, ◌&&◌, ◌≡◌, ◌∷◌};
 
 use crate::files::{Shelf, exists, flags_in, unlink};
-use resin_eval_functions::arguments::Builtins;
-use resin_eval_functions::under::step_functions::functions::miscounted;
-use resin_eval_writes::leaving::{context_of, text_key, with_text};
-use resin_eval_writes::under::base::{Files, Tables};
-use resin_eval_writes::under::eval_nested::nested::{Evaluator, Nested, Outcome};
-use resin_eval_writes::under::eval_nested::run::Run;
-use resin_eval_writes::under::heap::PreludeClass;
-use resin_eval_writes::under::lstr::LText;
-use resin_eval_writes::under::machine::{Machine, Stop};
-use resin_eval_writes::under::meaning_forms::{ChannelFunction, Outgoing};
-use resin_eval_writes::under::ops::to_text;
-use resin_eval_writes::under::scalar::ScriptFault;
-use resin_eval_writes::under::step_parts::channels::{
+use resin_eval_queries::queries::Querier;
+use resin_eval_queries::under::base::{Files, Tables};
+use resin_eval_queries::under::eval_functions::arguments::Builtins;
+use resin_eval_queries::under::eval_nested::nested::{Evaluator, Nested, Outcome};
+use resin_eval_queries::under::eval_nested::run::Run;
+use resin_eval_queries::under::eval_writes::leaving::{context_of, text_key, with_text};
+use resin_eval_queries::under::eval_writes::writes::Writer;
+use resin_eval_queries::under::heap::PreludeClass;
+use resin_eval_queries::under::lstr::LText;
+use resin_eval_queries::under::machine::{Machine, Stop};
+use resin_eval_queries::under::meaning_forms::{ChannelFunction, Outgoing};
+use resin_eval_queries::under::ops::to_text;
+use resin_eval_queries::under::scalar::ScriptFault;
+use resin_eval_queries::under::step_functions::functions::miscounted;
+use resin_eval_queries::under::step_parts::channels::{
     channel_kinds, flag_in, is_one_line, needed, only_looks,
 };
-use resin_eval_writes::under::step_parts::operators::{charge_all, given};
-use resin_eval_writes::under::step_parts::reads::number;
-use resin_eval_writes::under::value::{Value, Values};
-use resin_eval_writes::writes::Writer;
+use resin_eval_queries::under::step_parts::operators::{charge_all, given};
+use resin_eval_queries::under::step_parts::reads::number;
+use resin_eval_queries::under::value::{Value, Values};
 use std::alloc::{AllocError, Global};
 
-// What is not built yet.
-fn unbuilt<A>(m: &Machine) -> Result<A, Stop>
+// Values that are not of the kinds that a function takes, or are too few; none such reach the work of a call.
+fn unfit<A>(m: &Machine) -> Result<A, Stop>
     ensures { result ≡ Err (Fault UndefinedFunction m.now.line) }
 {
     Err(m.fault(ScriptFault::UndefinedFunction))
@@ -107,7 +108,7 @@ impl<
     {
         match args {
             [n, ..] => self.set_status(run, n),
-            [] => unbuilt(&run.machine),
+            [] => unfit(&run.machine),
         }
     }
 
@@ -117,10 +118,10 @@ impl<
         ensures { Performs F.Files T.Tables (form.channel_work (means self.now.by.now) Header (trees_of args.now)) run.old (on_ok tree_of result) run.new }
     {
         let [line, rest @ ..] = args else {
-            return unbuilt(&run.machine);
+            return unfit(&run.machine);
         };
         let Value::Text(line) = line else {
-            return unbuilt(&run.machine);
+            return unfit(&run.machine);
         };
         let context = Value::Arr(context_of(self.by.alloc, b"header")?);
         let what = Outgoing::Header(flag_in(rest));
@@ -165,11 +166,11 @@ impl<
             Value::Text(to) => match subject {
                 Value::Text(subject) => match message {
                     Value::Text(message) => self.leave_mail(run, to, subject, message),
-                    _ => unbuilt(&run.machine),
+                    _ => unfit(&run.machine),
                 },
-                _ => unbuilt(&run.machine),
+                _ => unfit(&run.machine),
             },
-            _ => unbuilt(&run.machine),
+            _ => unfit(&run.machine),
         }
     }
 
@@ -180,7 +181,7 @@ impl<
     {
         match args {
             [to, subject, message, ..] => self.mail_of(run, to, subject, message),
-            _ => unbuilt(&run.machine),
+            _ => unfit(&run.machine),
         }
     }
 
@@ -204,13 +205,13 @@ impl<
         ensures { Performs F.Files T.Tables (form.channel_work (means self.now.by.now) FilePutContents (trees_of args.now)) run.old (on_ok tree_of result) run.new }
     {
         let [path, data, rest @ ..] = args else {
-            return unbuilt(&run.machine);
+            return unfit(&run.machine);
         };
         let Value::Text(path) = path else {
-            return unbuilt(&run.machine);
+            return unfit(&run.machine);
         };
         let Value::Text(data) = data else {
-            return unbuilt(&run.machine);
+            return unfit(&run.machine);
         };
         Shelf { by: self.by }.put_contents(run, path.bytes(), data, flags_in(rest))
     }
@@ -221,10 +222,10 @@ impl<
         ensures { Performs F.Files T.Tables (form.channel_work (means self.now.by.now) FileGetContents (trees_of args.now)) run.old (on_ok tree_of result) run.new }
     {
         let [path, ..] = args else {
-            return unbuilt(&run.machine);
+            return unfit(&run.machine);
         };
         let Value::Text(path) = path else {
-            return unbuilt(&run.machine);
+            return unfit(&run.machine);
         };
         Shelf { by: self.by }.get_contents(run, path.bytes())
     }
@@ -234,10 +235,10 @@ impl<
         ensures { Performs F.Files T.Tables (form.channel_work (means self.now.by.now) Unlink (trees_of args.now)) run.old (on_ok tree_of result) run.new }
     {
         let [path, ..] = args else {
-            return unbuilt(&run.machine);
+            return unfit(&run.machine);
         };
         let Value::Text(path) = path else {
-            return unbuilt(&run.machine);
+            return unfit(&run.machine);
         };
         unlink(run, path.bytes())
     }
@@ -247,12 +248,26 @@ impl<
         ensures { Performs F.Files T.Tables (form.channel_work (means self.now.by.now) FileExists (trees_of args.now)) run.old (on_ok tree_of result) run.new }
     {
         let [path, ..] = args else {
-            return unbuilt(&run.machine);
+            return unfit(&run.machine);
         };
         let Value::Text(path) = path else {
-            return unbuilt(&run.machine);
+            return unfit(&run.machine);
         };
         exists(run, path.bytes())
+    }
+
+    // A statement over tables: its text is the first argument.
+    fn query_work(&self, run: &mut Run<F, T>, args: &[Value]) -> Result<Value, Stop>
+        requires { Nests F.Files T.Tables N.pre N.post self.now.by.now }
+        ensures { Performs F.Files T.Tables (form.channel_work (means self.now.by.now) SqlQuery (trees_of args.now)) run.old (on_ok tree_of result) run.new }
+    {
+        let [query, ..] = args else {
+            return unfit(&run.machine);
+        };
+        let Value::Text(query) = query else {
+            return unfit(&run.machine);
+        };
+        Querier { by: self.by }.sql_query(run, query)
     }
 
     // The work of a call.
@@ -283,7 +298,7 @@ impl<
             ChannelFunction::FileGetContents => self.get_work(run, args),
             ChannelFunction::Unlink => self.unlink_work(run, args),
             ChannelFunction::FileExists => self.exists_work(run, args),
-            ChannelFunction::SqlQuery => unbuilt(&run.machine),
+            ChannelFunction::SqlQuery => self.query_work(run, args),
         }
     }
 
@@ -292,8 +307,8 @@ impl<
     /// ChannelInCheck comes first, where a check, a merge or a filter that the runtime called makes the call, unless the function only looks. Then another count of
     /// arguments throws ArgumentCountError; the arguments are turned into their kinds from the left; the texts among them are charged; then comes the work; and the text that
     /// it gives is charged. ValueError is thrown for a status that may not be set, for a header line that sets no header, and for a mail whose address or subject has more
-    /// than one line. What leaves asks its filters and its policies, which may throw. A file that is read or written stops as `Shelf` says. UndefinedFunction comes for the functions of
-    /// tables, which aren't built yet.
+    /// than one line. What leaves asks its filters and its policies, which may throw. A file that is read or written stops as `Shelf`
+    /// says, a statement over tables as `Querier` does.
     pub fn channel_function(
         &self,
         run: &mut Run<F, T>,

@@ -1,31 +1,31 @@
 //! Functions on files once their arguments are evaluated: policies are kept beside the bytes, and come back with them.
-ghost use Rattle.resin_eval_writes.specs.Under.meaning_forms.Files.{append_flag, behind_found, behind_held, contents_of, exists, flags_in, get_contents, is_flag, put_contents, put_data, to_hold, unlink};
-ghost use Rattle.resin_eval_writes.specs.Under.meaning_forms.Runs.{Runs, on_ok};
-ghost use Rattle.resin_eval_writes.specs.Under.eval_nested.Nested.{Nests, means};
-ghost use Rattle.resin_eval_writes.specs.Under.eval_nested.Running.{Performs};
-ghost use Rattle.resin_eval_writes.specs.Under.store.Entries.{lift};
-ghost use Rattle.resin_eval_writes.specs.Under.value.Seen.{tree_of, trees_of};
+ghost use Rattle.resin_eval_queries.specs.Under.meaning_forms.Files.{append_flag, behind_found, behind_held, contents_of, exists, flags_in, get_contents, is_flag, put_contents, put_data, to_hold, unlink};
+ghost use Rattle.resin_eval_queries.specs.Under.meaning_forms.Runs.{Runs, on_ok};
+ghost use Rattle.resin_eval_queries.specs.Under.eval_nested.Nested.{Nests, means};
+ghost use Rattle.resin_eval_queries.specs.Under.eval_nested.Running.{Performs};
+ghost use Rattle.resin_eval_queries.specs.Under.store.Entries.{lift};
+ghost use Rattle.resin_eval_queries.specs.Under.value.Seen.{tree_of, trees_of};
 ghost use Rattle.std.specs.Option.{option_map};
 ghost use Rattle.std.specs.Ordering.{int_eq};
 ghost use Rattle.resin_eval_channels.specs.Held.{IsHeld, marked};
 ghost use Rattle.std.specs.Prelude.{IfOk, length, ◌++◌, ◌≡◌};
 
-use resin_eval_writes::reading::{Reader, path_context};
-use resin_eval_writes::under::base::{Entry, Files, Tables};
-use resin_eval_writes::under::bytes::{Bytes, lawful_path};
-use resin_eval_writes::under::eval_nested::nested::{Evaluator, Nested, Outcome};
-use resin_eval_writes::under::eval_nested::run::Run;
-use resin_eval_writes::under::heap::PreludeClass;
-use resin_eval_writes::under::journal::Channel;
-use resin_eval_writes::under::lstr::{LONGEST, LText};
-use resin_eval_writes::under::machine::{Machine, Stop};
-use resin_eval_writes::under::scalar::ScriptFault;
-use resin_eval_writes::under::step_parts::reads::number;
-use resin_eval_writes::under::store::policies_of;
-use resin_eval_writes::under::value::Value;
-use resin_shadow::{FrozenRuns, encode};
-use resin_step_keeping::freezing::freeze_text;
-use resin_step_keeping::thawing::thaw_entry;
+use resin_eval_queries::under::base::{Entry, Files, Tables};
+use resin_eval_queries::under::bytes::{Bytes, lawful_path};
+use resin_eval_queries::under::eval_nested::nested::{Evaluator, Nested, Outcome};
+use resin_eval_queries::under::eval_nested::run::Run;
+use resin_eval_queries::under::eval_writes::reading::{Reader, path_context};
+use resin_eval_queries::under::heap::PreludeClass;
+use resin_eval_queries::under::journal::Channel;
+use resin_eval_queries::under::lstr::{LONGEST, LText};
+use resin_eval_queries::under::machine::{Machine, Stop};
+use resin_eval_queries::under::scalar::ScriptFault;
+use resin_eval_queries::under::shadow::{FrozenRuns, encode};
+use resin_eval_queries::under::step_keeping::freezing::freeze_text;
+use resin_eval_queries::under::step_keeping::thawing::thaw_entry;
+use resin_eval_queries::under::step_parts::reads::number;
+use resin_eval_queries::under::store::policies_of;
+use resin_eval_queries::under::value::Value;
 use std::alloc::{AllocError, Global};
 
 /// FILE_APPEND

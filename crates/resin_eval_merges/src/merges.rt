@@ -97,8 +97,8 @@ impl<
         Ok(both)
     }
 
-    // Sets as one; where there is none, nothing.
-    fn fold_sets(&self, run: &mut Run<F, T>, sets: &[PSet]) -> Result<PSet, Stop>
+    /// Sets as one, merged from the left; where there is none, nothing. A single set stays as it is, and no policy is asked. It stops as `merge` does.
+    pub fn fold_sets(&self, run: &mut Run<F, T>, sets: &[PSet]) -> Result<PSet, Stop>
         requires { Nests F.Files T.Tables N.pre N.post self.now.by.now }
         ensures { Performs F.Files T.Tables (fold_sets (means self.now.by.now) sets.now) run.old result run.new }
     {

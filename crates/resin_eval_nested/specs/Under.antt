@@ -9,6 +9,7 @@ pub use Rattle.resin_step_objects.specs.Under.lstr
 pub use Rattle.resin_step_objects.specs.Under.machine
 pub use Rattle.resin_step_objects.specs.Under.meaning
 pub use Rattle.resin_step_objects.specs.Under.meaning_forms
+pub use Rattle.resin_step_objects.specs.Under.meaning_tables
 pub use Rattle.resin_step_objects.specs.Under.ops
 pub use Rattle.resin_step_objects.specs.Under.scalar
 pub use Rattle.resin_step_objects.specs.Under.scope

@@ -9,6 +9,7 @@ pub use Rattle.resin_eval_nested.specs.Under.lstr
 pub use Rattle.resin_eval_nested.specs.Under.machine
 pub use Rattle.resin_eval_nested.specs.Under.meaning
 pub use Rattle.resin_eval_nested.specs.Under.meaning_forms
+pub use Rattle.resin_eval_nested.specs.Under.meaning_tables
 pub use Rattle.resin_eval_nested.specs.Under.ops
 pub use Rattle.resin_eval_nested.specs.Under.scalar
 pub use Rattle.resin_eval_nested.specs.Under.scope

@@ -6,6 +6,6 @@ pub mod eval_nested {
 }
 
 pub use resin_eval_nested::under::{
-    base, bytes, heap, items, journal, label, lstr, machine, meaning_forms, ops, scalar,
-    step_objects, step_parts, store, target, tree, value,
+    base, bytes, heap, items, journal, label, lstr, machine, meaning_forms, meaning_tables, ops,
+    scalar, step_objects, step_parts, store, target, tree, value,
 };

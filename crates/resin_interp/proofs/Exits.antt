@@ -22,7 +22,6 @@ use Rattle.resin_eval_calls.specs.Under.meaning_forms.Runs.{on_ok}
 use Rattle.resin_eval_calls.specs.Under.meaning_forms.Parts.{Evals}
 use Rattle.resin_eval_calls.specs.Under.meaning_forms.Merges.{fold_on, fold_sets}
 use Rattle.resin_eval_calls.specs.Under.meaning_forms.Functions.{format_arguments}
-use Rattle.resin_eval_calls.specs.Under.meaning_forms.Channels.{unbuilt}
 use Rattle.resin_eval_calls.specs.Under.scalar.declared.faults.ScriptFault.TheVariants.{UndefinedFunction}
 use Rattle.resin_eval_calls.specs.Under.meaning_forms.Programs.{flow_of, program_end}
 use Rattle.resin_eval_calls.specs.Under.meaning_forms.declared.course.Course.{Course}

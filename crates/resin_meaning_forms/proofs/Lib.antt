@@ -2,5 +2,5 @@
 pub use Rattle.resin_builtin.proofs as builtin_lemmas
 pub use Rattle.resin_builtin.proofs.bytes_lemmas
 pub use Rattle.resin_builtin.proofs.label_lemmas
-pub use Rattle.resin_meaning.proofs as meaning_lemmas
+pub use Rattle.resin_meaning_tables.proofs.meaning_lemmas
 pub use Rattle.resin_target.proofs as target_lemmas

@@ -1,5 +1,5 @@
--- Functions of channels: output buffers, headers, the status, mail and files (PHP manual, "Output Control", "header", "http_response_code", "mail";
--- files stand in Files.antt).
+-- Functions of channels: output buffers, headers, the status, mail, files and tables (PHP manual, "Output Control", "header", "http_response_code", "mail";
+-- files stand in Files.antt, tables in Queries.antt).
 use Rattle.std.specs.Prelude.{ℕ, ℤ, pos, negsuc, ◌==◌, ◌||◌, ◌&&◌, not, nat_le, List, [], ◌∷◌, ◌++◌, length, Bool, true, false, if◌then◌else◌, Option, None, Some, codes}
 use Rattle.std.specs.List.{list_any}
 use Rattle.resin_builtin.specs.Under.label.Sets.{empty as no_labels}
@@ -19,7 +19,7 @@ use Rattle.resin_builtin.specs.Under.scalar.declared.faults.ScriptFault.TheVaria
 use Rattle.resin_target.specs.Under.heap.declared.prelude.PreludeClass.TheVariants.{ValueError}
 use Rattle.resin_target.specs.Under.machine.Steps.{awake}
 use Rattle.resin_target.specs.Under.machine.Leaving.{open_buffer, close_buffer}
-use Rattle.resin_meaning.specs.Programs.{Prog, give, act, ◌>>=◌}
+use Rattle.resin_meaning_tables.specs.Under.meaning.Programs.{Prog, give, act, ◌>>=◌}
 use Rattle.resin_meaning_forms.specs.declared.callee.ChannelFunction.{ChannelFunction}
 use Rattle.resin_meaning_forms.specs.declared.callee.ChannelFunction.TheVariants.{BufferStart, BufferGetClean, BufferEndClean, BufferEndFlush, Header as HeaderFunction, ResponseCode, Mail as MailFunction, FilePutContents, FileGetContents, Unlink, FileExists, SqlQuery}
 use Rattle.resin_meaning_forms.specs.declared.outgoing.Outgoing.TheVariants.{Header as HeaderLine, Status, Mail}
@@ -27,6 +27,7 @@ use Rattle.resin_meaning_forms.specs.Parts.{Evals, computed, faulted, thrown_new
 use Rattle.resin_meaning_forms.specs.Writes.{plain, context_of, leave, write_page}
 use Rattle.resin_meaning_forms.specs.Functions.{counted, arguments_of}
 use Rattle.resin_meaning_forms.specs.Files.{flags_in, get_contents, put_contents, unlink, exists}
+use Rattle.resin_meaning_forms.specs.Queries.{sql_query}
 
 -- ---- buffers
 
@@ -80,9 +81,9 @@ mail_context to = Arr (put (TextKey (codes "email")) (text to) (put (TextKey (co
 
 -- ---- the calls
 
--- no call is made of what isn't built yet
-abbrev pub unbuilt : {A : Type 0} → Prog A
-unbuilt = faulted UndefinedFunction
+-- values that aren't of the kinds that a function takes, or are too few; none such reach the work of a call
+abbrev pub unfit : {A : Type 0} → Prog A
+unfit = faulted UndefinedFunction
 
 -- the arguments that must stand, and those that may be left out
 abbrev pub needed : ChannelFunction → List ArgKind
@@ -126,7 +127,8 @@ channel_work ev FilePutContents (text path ∷ text t ∷ ts) = put_contents ev 
 channel_work ev FileGetContents (text path ∷ ts) = get_contents ev (bytes_of path)
 channel_work ev Unlink (text path ∷ ts) = unlink (bytes_of path)
 channel_work ev FileExists (text path ∷ ts) = exists (bytes_of path)
-channel_work ev f ts = unbuilt
+channel_work ev SqlQuery (text query ∷ ts) = sql_query ev query
+channel_work ev f ts = unfit
 
 -- files may be read in a check
 abbrev pub only_looks : ChannelFunction → Bool

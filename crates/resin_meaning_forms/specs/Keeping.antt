@@ -2,9 +2,9 @@
 -- the charges and lost policies are this project's own).
 use Rattle.std.specs.Prelude.{ℕ, Bool, ◌==◌, ◌&&◌, nat_lt, not, slice_index_or, List, [], ◌∷◌, ◌++◌, length, map, zip, codes, Option, None, Some, if◌then◌else◌}
 use Rattle.std.specs.Option.{option_map, option_and_then}
-use Rattle.resin_builtin.specs.Under.label.Sets.{NumberSet, numbers, empty as no_labels, set_of as labels_of}
+use Rattle.resin_builtin.specs.Under.label.Sets.{NumberSet, numbers, same, empty as no_labels, set_of as labels_of}
 use Rattle.resin_builtin.specs.Under.lstr.declared.limits.TheConstants.{LONGEST}
-use Rattle.resin_builtin.specs.Under.lstr.Texts.{Text as LabelledText, carrying}
+use Rattle.resin_builtin.specs.Under.lstr.Texts.{Text as LabelledText, carrying, distinct}
 use Rattle.resin_builtin.specs.Under.scalar.declared.faults.ScriptFault.TheVariants.{NotStorable, TextTooLong, BadShadow}
 use Rattle.resin_builtin.specs.Under.value.declared.key.Key.{Key}
 use Rattle.resin_builtin.specs.Under.value.declared.key.Key.TheVariants.{Int as IntKey, Text as TextKey}
@@ -19,13 +19,13 @@ use Rattle.resin_target.specs.Under.machine.State.{State}
 use Rattle.resin_target.specs.Under.machine.Steps.{charge}
 use Rattle.resin_target.specs.Under.machine.Objects.{is_object, make_object, set_field}
 use Rattle.resin_target.specs.Under.machine.Leaving.{class_name_of}
-use Rattle.resin_meaning.specs.Programs.{Prog, give, act, ◌>>=◌}
+use Rattle.resin_meaning_tables.specs.Under.meaning.Programs.{Prog, give, act, ◌>>=◌}
 use Rattle.resin_frozen.specs.Policies.{frozen}
 use Rattle.resin_frozen.specs.Reading.{Said, said}
 use Rattle.resin_shadow.specs.Marks.{TextSet, Marks, policies}
 use Rattle.resin_shadow.specs.Shadows.{places}
 use Rattle.resin_shadow.specs.Runs.{set_of}
-use Rattle.resin_meaning.specs.Under.store.Entries.{Marked, LabelledEntry, Good, Bad, marks}
+use Rattle.resin_meaning_tables.specs.Under.store.Entries.{Marked, LabelledEntry, Good, Bad, marks}
 use Rattle.resin_meaning_forms.specs.Parts.{faulted, looked, ◌>>◌}
 
 -- ---- freezing: what is kept of the policies of a text
@@ -120,6 +120,11 @@ labelled table objects d = map (λ b. (b.0, labels_for table objects b.1)) d
 abbrev pub thaw_marked : Marked → Prog LabelledText
 thaw_marked d =
     act (charge (length (policies (marks d)))) >>= λ _. thaw_policies [] (policies (marks d)) >>= λ objects. give (labelled (policies (marks d)) objects d)
+
+-- The sets of objects that some bytes carry, each once, in the order in which they first occur. The objects are charged and made in the same way.
+abbrev pub thaw_sets : Marks → Prog (List NumberSet)
+thaw_sets w =
+    act (charge (length (policies w))) >>= λ _. thaw_policies [] (policies w) >>= λ objects. give (distinct same (map (labels_for (policies w) objects) w))
 
 -- a read of an entry that holds so many bytes
 abbrev pub thaw_short : LabelledEntry → Prog LabelledText

@@ -10,10 +10,13 @@ pub mod Names
 pub mod Functions
 pub mod Reading
 pub mod Files
-pub mod Channels
+pub mod Cells
+pub mod Totals
 pub mod Sources
 pub mod Imports
 pub mod Inputs
+pub mod Queries
+pub mod Channels
 pub mod Calls
 pub mod Assignments
 pub mod Expressions

@@ -1,12 +1,12 @@
 -- A run of the code that works on the state alone.
 use Rattle.std.specs.Prelude.{Result, Ok, Err}
-use Rattle.resin_meaning.specs.Under.store.Files.{LabelledFiles}
-use Rattle.resin_meaning.specs.Under.base.TableStore.{TableStore}
-use Rattle.resin_meaning.specs.Under.base.declared.calls.Calls.{Calls}
+use Rattle.resin_meaning_tables.specs.Under.store.Files.{LabelledFiles}
+use Rattle.resin_meaning_tables.specs.Under.base.TableStore.{TableStore}
+use Rattle.resin_meaning_tables.specs.Under.base.declared.calls.Calls.{Calls}
 use Rattle.resin_target.specs.Under.machine.declared.stop.Stop.{Stop}
 use Rattle.resin_target.specs.Under.machine.State.{State}
-use Rattle.resin_meaning.specs.Programs.{Prog}
-use Rattle.resin_meaning.specs.Runs.{Does, Seen, world}
+use Rattle.resin_meaning_tables.specs.Under.meaning.Programs.{Prog}
+use Rattle.resin_meaning_tables.specs.Under.meaning.Runs.{Does, Seen, world}
 
 -- the code did what the program does, and no keeper call, whatever the keepers are
 abbrev pub Runs : {A : Type 0} → Prog A → State → Result A Stop → State → Type 0

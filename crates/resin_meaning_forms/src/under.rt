@@ -9,15 +9,8 @@ pub mod builtin {
 }
 
 pub use resin_builtin::under::{bytes, label, lstr, scalar, scan, value};
-/// `resin_meaning`
-pub mod meaning {
-    pub use resin_meaning::{
-        create_table, delete_row, file_exists, insert_row, read_file, remove_file, table_columns,
-        table_rows, update_row, write_file,
-    };
-}
-
-pub use resin_meaning::under::{base, store};
+pub use resin_meaning_tables as meaning_tables;
+pub use resin_meaning_tables::under::{base, meaning, store};
 /// `resin_target`
 pub mod target {
     pub use resin_target::{Hop, Index, Path, Place, at_index, at_property, erase, fetch, store};

@@ -1,13 +1,16 @@
 //! Serves requests to small sites, one site a line. Fields stand between `|`, and `\n`, `\r` and `\0` stand for those bytes. `fuel N` at the front gives each request N ticks,
 //! instead of 100,000, and `fail N ..` lets the files' Nth calls fail. Then come the files, each a field with its name, and behind a blank its shadow text where it has
-//! one, and a field with its bytes; and requests, each a field with the method and the target, and behind a newline further lines of the head, the
+//! one, and a field with its bytes; tables, each a field `table NAME COLUMN ..`, where `:INTEGER` may stand behind a column's name, and fields `row NAME CELL~CELL..`, a
+//! cell being `i` and an integer, `t` and a text, or else NULL; and requests, each a field with the method and the target, and behind a newline further lines of the head, the
 //! empty one, and the body. A request is served when it is met, so that files behind it aren't there yet.
 //!
 //! A line is printed for each request: how it ended, its status, its keeper calls with the numbers of those that failed, the bytes of its response and the response, the denials,
-//! and the mail, where there are any; and for a request that is refused the status and the response. A line that begins with `# ` is a heading and is printed as it is.
+//! and the mail, where there are any; and for a request that is refused the status and the response. A field `show NAME` prints the rows of a table in the same way. A line that begins with `# ` is a heading and is printed as it is.
 //!
 //! The input, and the output, which was worked out by hand from the formats of requests and responses, are the table of the tests of a site.
 #![tactic(auto)]
+
+mod tables;
 
 use resin_memory::{CalmTables, FakeFiles};
 use resin_site::under::base::{Calls, FailList};
@@ -120,24 +123,16 @@ fn answer(
     number: u64,
     field: &str,
     files: &mut FakeFiles,
+    tables: &mut CalmTables,
 ) -> Result<String, AllocError> {
     let text = request_text(alloc, field)?;
-    let mut tables = CalmTables::new(alloc);
     let mut calls = Calls {
         made: 0,
         failed: FailList::new(alloc),
     };
     match next_request(alloc, text.as_bytes())? {
         Step::Got { request, .. } => {
-            let outcome = serve_one(
-                alloc,
-                site,
-                &request,
-                number,
-                files,
-                &mut tables,
-                &mut calls,
-            )?;
+            let outcome = serve_one(alloc, site, &request, number, files, tables, &mut calls)?;
             shown(alloc, number, &outcome, &calls)
         }
         Step::Refuse { status } => shown_refusal(alloc, status),
@@ -177,25 +172,69 @@ fn numbers(alloc: Global, words: &str) -> Result<FailList, AllocError> {
     Ok(list)
 }
 
+/// Adds a line to those before it.
+fn push_line(out: &mut String, line: &str) -> Result<(), AllocError> {
+    if !out.is_empty() {
+        out.push('\n')?;
+    }
+    out.push_str(line)
+}
+
+/// A site under way: what it has kept, and the number of its next request.
+#[derive(Drop)]
+struct Served {
+    site: Site,
+    files: FakeFiles,
+    tables: CalmTables,
+    number: u64,
+}
+
+/// Serves the request of a field, makes or shows a table, or tells that the field is the name of a file.
+fn take(
+    alloc: Global,
+    served: &mut Served,
+    out: &mut String,
+    field: &str,
+) -> Result<bool, AllocError> {
+    if let Some(table) = field.strip_prefix("table ") {
+        tables::make(alloc, &mut served.tables, table)?;
+    } else if let Some(row) = field.strip_prefix("row ") {
+        tables::put_row(alloc, &mut served.tables, row)?;
+    } else if let Some(name) = field.strip_prefix("show ") {
+        push_line(out, tables::shown(alloc, &served.tables, name)?.as_str())?;
+    } else if is_request(field) {
+        let number = served.number;
+        let text = answer(
+            alloc,
+            &mut served.site,
+            number,
+            field,
+            &mut served.files,
+            &mut served.tables,
+        )?;
+        push_line(out, text.as_str())?;
+        served.number = number.saturating_add(1);
+    } else {
+        return Ok(true);
+    }
+    Ok(false)
+}
+
 /// Takes the fields of a site one after the other, and answers its requests.
 fn answers(alloc: Global, fuel: u32, fail: FailList, line: &str) -> Result<String, AllocError> {
-    let mut site = Site::new(alloc, fuel)?;
-    let mut files = FakeFiles::new(alloc, fail);
-    let mut number = 1_u64;
+    let mut served = Served {
+        site: Site::new(alloc, fuel)?,
+        files: FakeFiles::new(alloc, fail),
+        tables: CalmTables::new(alloc),
+        number: 1,
+    };
     let mut out = String::new(alloc);
     let mut name: Option<&str> = None;
     for field in line.split('|') {
         if let Some(at) = name {
-            put_file(&mut files, at, field)?;
+            put_file(&mut served.files, at, field)?;
             name = None;
-        } else if is_request(field) {
-            if number > 1 {
-                out.push('\n')?;
-            }
-            let text = answer(alloc, &mut site, number, field, &mut files)?;
-            out.push_str(text.as_str())?;
-            number = number.saturating_add(1);
-        } else {
+        } else if take(alloc, &mut served, &mut out, field)? {
             name = Some(field);
         }
     }

@@ -86,3 +86,7 @@ pub kept_done : {B : Type 0} (g : TotalItem → B) (its : List TotalItem) (i : �
     → length its ≤ i → out ++ map g (kept_with names (drop i its)) ≡ map g (kept_with [] its) → out ≡ map g (first_items its)
 kept_done g its i names out le h =
     sym (append-nil out) ∙ (sym (ap (λ (xs : List TotalItem). out ++ map g (kept_with names xs)) (nothing_left its i le)) ∙ (h ∙ ap (map g) (kept_from_none its)))
+
+pub same_items : (its : List TotalItem) → map (λ it. it) its ≡ its
+same_items [] = refl
+same_items (it ∷ its) = ap (λ xs. it ∷ xs) (same_items its)

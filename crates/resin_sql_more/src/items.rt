@@ -1,13 +1,14 @@
 //! The items of a total: their names, why they are refused, and their cells.
 
 ghost use Rattle.std.specs.Prelude.{◌≡◌, ◌++◌, ◌∷◌, [], Some, map, not, IfOk, OnOk, if◌then◌else◌};
+ghost use Rattle.resin_rows.specs.Columns.{is_among};
 ghost use Rattle.resin_rows.specs.Rows.{cells_of, row_at};
 ghost use Rattle.resin_sql_more.specs.Totals as spec;
 
-use resin_base::{Bytes, Cell, Column, Row, Stored, StoredCell};
+use resin_base::{Bytes, Cell, Column, Names, Row, Stored, StoredCell};
 use resin_joint::TotalItem;
 use resin_plan::parts::answered_at;
-use resin_rows::{Place, RowCells, cells_at, earlier, found, is_text, name_cause};
+use resin_rows::{Place, RowCells, cells_at, earlier, found, is_among, is_text, name_cause};
 use resin_sql::SqlRefusal;
 use std::alloc::{AllocError, Global};
 
@@ -72,13 +73,58 @@ pub(crate) fn items_cause(columns: &[Column], items: &[TotalItem]) -> Option<Sql
 }
 
 /// Whether a cell is NULL with the empty shadow.
-fn is_null(cell: &StoredCell) -> bool
+pub fn is_null(cell: &StoredCell) -> bool
     ensures { result ≡ spec.is_null cell.now }
 {
     match (&cell.value, &cell.shadow) {
         (Cell::Null, Cell::Text(shadow)) => shadow.as_slice().is_empty(),
         _ => false,
     }
+}
+
+/// A copy of an item.
+fn copied(alloc: Global, item: &TotalItem) -> Result<TotalItem, AllocError>
+    ensures { IfOk result (λ copy. copy ≡ item.now) }
+{
+    match item {
+        TotalItem::Count => Ok(TotalItem::Count),
+        TotalItem::Sum(column) => Ok(TotalItem::Sum(Bytes::from_slice(alloc, column.as_slice())?)),
+        TotalItem::Min(column) => Ok(TotalItem::Min(Bytes::from_slice(alloc, column.as_slice())?)),
+        TotalItem::Max(column) => Ok(TotalItem::Max(Bytes::from_slice(alloc, column.as_slice())?)),
+        TotalItem::GroupConcat(column) => {
+            Ok(TotalItem::GroupConcat(Bytes::from_slice(alloc, column.as_slice())?))
+        }
+    }
+}
+
+/// Puts an item last, if none before it has its name.
+fn push_first(
+    alloc: Global,
+    names: &mut Names,
+    first: &mut Vec<TotalItem>,
+    item: &TotalItem,
+) -> Result<(), AllocError>
+    ensures names { OnOk result (names.new ≡ (if is_among (spec.item_name item.now) names.old then names.old else names.old ++ spec.item_name item.now ∷ [])) }
+    ensures items { OnOk result (first.new.items ≡ (if is_among (spec.item_name item.now) names.old then first.old.items else first.old.items ++ item.now ∷ [])) }
+{
+    let name = item_name(alloc, item)?;
+    if !is_among(name.as_slice(), names.as_slice()) {
+        names.push(name)?;
+        first.push(copied(alloc, item)?)?;
+    }
+    Ok(())
+}
+
+/// The items of a total, each once, in the order in which they are first named. An answer has a row of cells for each.
+pub fn first_items(alloc: Global, items: &[TotalItem]) -> Result<Vec<TotalItem>, AllocError>
+    ensures { IfOk result (λ first. first.items ≡ spec.first_items items.now) }
+{
+    let mut names = Names::new(alloc);
+    let mut first = Vec::new(alloc);
+    for item in items {
+        push_first(alloc, &mut names, &mut first, item)?;
+    }
+    Ok(first)
 }
 
 /// Puts a cell last, if it isn't NULL.

@@ -19,10 +19,11 @@ mod items;
 mod joins;
 mod pairs;
 mod totals;
+pub mod under;
 mod values;
 
 pub use answer::MoreAnswer;
-pub use items::item_name;
+pub use items::{first_items, is_null, item_name};
 pub use joins::exec_join;
 pub use resin_joint::{JoinStmt, MoreStmt, TotalItem, TotalStmt, read_more};
 pub use resin_sql::SqlStop as MoreStop;

@@ -21,7 +21,7 @@ use crate::show::{push_answer, push_numbers};
 use resin_base::{Bytes, Cell, Stored, StoredCell};
 use resin_label::PSet;
 use resin_lstr::{Builder, LText, TextFault};
-use resin_sql::{Condition, Literal, SqlFault, Test, literal_text};
+use resin_sql_more::under::sql::{Condition, Literal, SqlFault, Test, literal_text};
 use resin_sql_more::{MoreStmt, exec_join, exec_total, read_more};
 use std::alloc::{AllocError, Global};
 use std::io;

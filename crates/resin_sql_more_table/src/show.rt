@@ -1,7 +1,7 @@
 //! Answers and cells in words.
 
 use resin_base::{Calls, Cell, Stored};
-use resin_sql::SqlRefusal;
+use resin_sql_more::under::sql::SqlRefusal;
 use resin_sql_more::{MoreAnswer, MoreStop};
 use std::alloc::AllocError;
 

@@ -1,11 +1,13 @@
 //! Bytes with the objects of their policies.
+ghost use Rattle.indexmap.specs.IndexSet.{insert_key};
 ghost use Rattle.resin_shadow.specs.Parts.{run_spelled, spelled_by};
 ghost use Rattle.resin_step_keeping.specs.Sets.{TakesRun, labels_at, objects_at};
-ghost use Rattle.resin_step_parts.specs.Under.label.Sets.{set_of as labels_of};
-ghost use Rattle.resin_step_parts.specs.Under.lstr.Texts.{carrying};
+ghost use Rattle.resin_step_parts.specs.Under.label.Sets.{same, set_of as labels_of};
+ghost use Rattle.resin_step_parts.specs.Under.lstr.Texts.{carrying, distinct};
 ghost use Rattle.std.specs.List.{zip};
-ghost use Rattle.std.specs.Prelude.{◌≡◌, ◌≤◌, ◌++◌, map, min, length, slice_get, slice_index_or, option_copied, IfOk};
+ghost use Rattle.std.specs.Prelude.{◌≡◌, ◌≤◌, ◌++◌, fold, map, min, length, slice_get, slice_index_or, option_copied, IfOk, OnOk};
 
+use indexmap::IndexSet;
 use resin_shadow::Parts;
 use resin_step_parts::under::label::PSet;
 use resin_step_parts::under::lstr::{Builder, LText};
@@ -22,6 +24,68 @@ pub(crate) fn labelled(
 {
     let sets = label_sets(alloc, objects, &parts.sets)?;
     spelled(alloc, bytes, &sets, &parts.runs)
+}
+
+/// The sets of objects that bytes carry, each once, in the order in which they first occur.
+pub(crate) fn distinct_labels(
+    alloc: Global,
+    objects: &[u32],
+    parts: &Parts,
+) -> Result<Vec<PSet>, AllocError>
+    ensures { IfOk result (λ found. found.items ≡ distinct same (spelled_by (map (λ s. labels_at objects.now s.items) parts.now.sets.items) parts.now.runs.items)) }
+{
+    let sets = label_sets(alloc, objects, &parts.sets)?;
+    let met = distinct_sets(alloc, &sets, &parts.runs)?;
+    copied(alloc, met.as_slice())
+}
+
+// The sets of runs, each once, in the order in which they first occur.
+fn distinct_sets(
+    alloc: Global,
+    sets: &[PSet],
+    runs: &[(u64, usize)],
+) -> Result<IndexSet<PSet>, AllocError>
+    ensures { IfOk result (λ met. met.keys ≡ distinct same (spelled_by sets.now runs.now)) }
+{
+    let mut met = IndexSet::new(alloc);
+    for (len, place) in runs {
+        meet(&mut met, sets, *len, *place)?;
+    }
+    Ok(met)
+}
+
+// Puts the set of a run last, unless it is there. A run without bytes has none.
+fn meet(met: &mut IndexSet<PSet>, sets: &[PSet], len: u64, place: usize) -> Result<(), AllocError>
+    ensures { OnOk result (met.new.keys ≡ fold (insert_key same) met.old.keys (run_spelled sets.now (len, place))) }
+{
+    if len == 0 {
+        return Ok(());
+    }
+    let Some(set) = set_at(sets, place) else {
+        return Ok(());
+    };
+    let copy = set.clone()?;
+    insert(met, copy)?;
+    Ok(())
+}
+
+// Puts a set last, unless it is there.
+fn insert(met: &mut IndexSet<PSet>, set: PSet) -> Result<(), AllocError>
+    ensures { OnOk result (met.new.keys ≡ insert_key same met.old.keys set) }
+{
+    met.insert(set)?;
+    Ok(())
+}
+
+// Copies of sets.
+fn copied(alloc: Global, sets: &[PSet]) -> Result<Vec<PSet>, AllocError>
+    ensures { IfOk result (λ copies. copies.items ≡ sets.now) }
+{
+    let mut copies = Vec::new(alloc);
+    for set in sets {
+        copies.push(set.clone()?)?;
+    }
+    Ok(copies)
 }
 
 // The sets of the objects at places.

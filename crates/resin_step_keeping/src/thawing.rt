@@ -6,13 +6,14 @@ ghost use Rattle.resin_step_parts.specs.Under.meaning_forms.Runs.{Runs, on_ok};
 ghost use Rattle.resin_step_parts.specs.Under.value.declared.key.Key.{Key as AnyKey};
 ghost use Rattle.std.specs.Prelude.{◌≡◌, ◌<◌, [], length};
 
-use crate::labels::labelled;
+use crate::labels::{distinct_labels, labelled};
 use crate::lists::put;
 use resin_frozen::{Frozen, said};
 use resin_shadow::FrozenRuns;
 use resin_step_parts::reads::plain;
 use resin_step_parts::under::base::Entry;
 use resin_step_parts::under::heap::PreludeClass;
+use resin_step_parts::under::label::PSet;
 use resin_step_parts::under::lstr::{LONGEST, LText};
 use resin_step_parts::under::machine::{Machine, Stop};
 use resin_step_parts::under::scalar::ScriptFault;
@@ -56,6 +57,20 @@ fn thaw_marked(
     let numbers = objects.as_slice();
     let text = labelled(alloc, bytes, numbers, &parts)?;
     Ok(text)
+}
+
+/// The sets of objects that bytes with these policies carry, each once, in the order in which they first occur. The objects are charged and made as those of an
+/// entry are, though no text is made of the bytes: there may be more of them than a text has.
+pub fn thaw_sets(alloc: Global, m: &mut Machine, runs: &FrozenRuns) -> Result<Vec<PSet>, Stop>
+    ensures { Runs (meaning.thaw_sets runs.now) m.old (on_ok (λ v. v.items) result) m.new }
+{
+    let parts = runs.parts(alloc)?;
+    let policies = parts.policies.as_slice();
+    let count = policies.len() as u64;
+    m.charge(count)?;
+    let objects = thaw_policies(alloc, m, policies)?;
+    let sets = distinct_labels(alloc, objects.as_slice(), &parts)?;
+    Ok(sets)
 }
 
 // An object for each of some policy texts, in order.

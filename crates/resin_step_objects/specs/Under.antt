@@ -9,6 +9,7 @@ pub use Rattle.resin_step_parts.specs.Under.lstr
 pub use Rattle.resin_step_parts.specs.Under.machine
 pub use Rattle.resin_step_parts.specs.Under.meaning
 pub use Rattle.resin_step_parts.specs.Under.meaning_forms
+pub use Rattle.resin_step_parts.specs.Under.meaning_tables
 pub use Rattle.resin_step_parts.specs.Under.ops
 pub use Rattle.resin_step_parts.specs.Under.scalar
 pub use Rattle.resin_step_parts.specs.Under.scope

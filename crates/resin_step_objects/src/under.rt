@@ -8,7 +8,7 @@ pub mod step_parts {
 }
 
 pub use resin_step_parts::under::{
-    base, bytes, heap, items, journal, label, lstr, machine, meaning, meaning_forms, ops, scalar,
-    store, target, value,
+    base, bytes, heap, items, journal, label, lstr, machine, meaning, meaning_forms,
+    meaning_tables, ops, scalar, store, target, value,
 };
 pub use resin_tree as tree;

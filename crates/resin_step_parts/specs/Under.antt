@@ -19,3 +19,4 @@ pub use Rattle.resin_meaning_forms.specs.Under.target
 pub use Rattle.resin_meaning_forms.specs.Under.text_fn
 pub use Rattle.resin_meaning_forms.specs.Under.tree
 pub use Rattle.resin_meaning_forms.specs.Under.value
+pub use Rattle.resin_meaning_forms.specs.Under.meaning_tables

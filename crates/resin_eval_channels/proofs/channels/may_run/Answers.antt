@@ -1,5 +1,5 @@
-use Rattle.resin_eval_writes.proofs.eval_nested_lemmas.Arms.{does_no, does_yes}
-use Rattle.resin_eval_writes.proofs.meaning_lemmas.Composition.{does_act, does_give}
+use Rattle.resin_eval_queries.proofs.eval_nested_lemmas.Arms.{does_no, does_yes}
+use Rattle.resin_eval_queries.proofs.meaning_lemmas.Composition.{does_act, does_give}
 use Rattle.std.proofs.Common.{sym, ◌∙◌}
 use Rattle.resin_eval_channels.proofs.channels.may_run.Goals as goal
 

@@ -1,7 +1,7 @@
-use Rattle.resin_eval_writes.specs.Under.store.Entries.{lift}
-use Rattle.resin_eval_writes.proofs.eval_nested_lemmas.Arms.{does_faulted}
-use Rattle.resin_eval_writes.proofs.eval_nested_lemmas.Exits.{does_is}
-use Rattle.resin_eval_writes.proofs.meaning_lemmas.Composition.{does_give}
+use Rattle.resin_eval_queries.specs.Under.store.Entries.{lift}
+use Rattle.resin_eval_queries.proofs.eval_nested_lemmas.Arms.{does_faulted}
+use Rattle.resin_eval_queries.proofs.eval_nested_lemmas.Exits.{does_is}
+use Rattle.resin_eval_queries.proofs.meaning_lemmas.Composition.{does_give}
 use Rattle.resin_eval_channels.specs.Held.{marked}
 use Rattle.resin_eval_channels.proofs.Holding.{behind_bad, behind_both, behind_long, behind_longer, behind_lost, both_held, told_length}
 use Rattle.std.proofs.Common.{ap, arith, length, sym, ◌++◌, ◌∙◌}

@@ -1,8 +1,8 @@
-use Rattle.resin_eval_writes.specs.Under.heap.declared.prelude.PreludeClass.TheVariants.{ValueError}
-use Rattle.resin_eval_writes.proofs.eval_nested_lemmas.Arms.{does_no, does_yes}
-use Rattle.resin_eval_writes.proofs.eval_nested_lemmas.Exits.{does_seen_exit}
-use Rattle.resin_eval_writes.proofs.meaning_lemmas.Composition.{does_give, does_next}
-use Rattle.resin_eval_writes.proofs.step_parts_lemmas.Steps.{thrown_seen}
+use Rattle.resin_eval_queries.specs.Under.heap.declared.prelude.PreludeClass.TheVariants.{ValueError}
+use Rattle.resin_eval_queries.proofs.eval_nested_lemmas.Arms.{does_no, does_yes}
+use Rattle.resin_eval_queries.proofs.eval_nested_lemmas.Exits.{does_seen_exit}
+use Rattle.resin_eval_queries.proofs.meaning_lemmas.Composition.{does_give, does_next}
+use Rattle.resin_eval_queries.proofs.step_parts_lemmas.Steps.{thrown_seen}
 use Rattle.std.proofs.Common.{sym, ◌∙◌}
 use Rattle.resin_eval_channels.proofs.files.exists.Goals as goal
 

@@ -1,8 +1,8 @@
 use mir.Val.{SFits}
-use Rattle.resin_eval_writes.specs.Under.meaning_forms.Files.{append_flag}
-use Rattle.resin_eval_writes.proofs.eval_nested_lemmas.Arms.{does_no, does_yes}
-use Rattle.resin_eval_writes.proofs.eval_nested_lemmas.Exits.{does_seen_exit}
-use Rattle.resin_eval_writes.proofs.meaning_lemmas.Composition.{does_give, does_next}
+use Rattle.resin_eval_queries.specs.Under.meaning_forms.Files.{append_flag}
+use Rattle.resin_eval_queries.proofs.eval_nested_lemmas.Arms.{does_no, does_yes}
+use Rattle.resin_eval_queries.proofs.eval_nested_lemmas.Exits.{does_seen_exit}
+use Rattle.resin_eval_queries.proofs.meaning_lemmas.Composition.{does_give, does_next}
 use Rattle.std.specs.Ordering.{int_eq}
 use Rattle.std.proofs.Common.{ap, rules, sym, w64, ℤ, ◌∙◌}
 use Rattle.std.proofs.lemmas.Int.{to_z-of_z}

@@ -1,7 +1,7 @@
-use Rattle.resin_eval_writes.specs.Under.meaning_forms.Channels.{is_count}
-use Rattle.resin_eval_writes.proofs.eval_nested_lemmas.Arms.{does_no, does_yes}
-use Rattle.resin_eval_writes.proofs.eval_nested_lemmas.Arguments.{counted_as}
-use Rattle.resin_eval_writes.proofs.meaning_lemmas.Composition.{does_exit, does_next}
+use Rattle.resin_eval_queries.specs.Under.meaning_forms.Channels.{is_count}
+use Rattle.resin_eval_queries.proofs.eval_nested_lemmas.Arms.{does_no, does_yes}
+use Rattle.resin_eval_queries.proofs.eval_nested_lemmas.Arguments.{counted_as}
+use Rattle.resin_eval_queries.proofs.meaning_lemmas.Composition.{does_exit, does_next}
 use Rattle.std.proofs.Common.{ap, length}
 use Rattle.resin_eval_channels.proofs.channels.Sender.channel_function.Goals as goal
 

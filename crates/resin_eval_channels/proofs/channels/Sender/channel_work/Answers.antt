@@ -1,11 +1,10 @@
-use Rattle.resin_eval_writes.specs.Under.meaning_forms.Channels.{channel_work}
-use Rattle.resin_eval_writes.specs.Under.meaning_forms.Programs.{evals}
-use Rattle.resin_eval_writes.specs.Under.meaning_forms.declared.callee.ChannelFunction.{ChannelFunction}
-use Rattle.resin_eval_writes.proofs.eval_nested_lemmas.Arms.{does_given}
-use Rattle.resin_eval_writes.proofs.eval_nested_lemmas.Exits.{does_is, does_seen_exit}
-use Rattle.resin_eval_channels.proofs.Unbuilt.{does_unbuilt}
-use Rattle.resin_eval_writes.proofs.meaning_lemmas.Composition.{does_act, does_give, does_loosely, does_next}
-use Rattle.resin_eval_writes.specs.Under.value.Seen.{trees_of}
+use Rattle.resin_eval_queries.specs.Under.meaning_forms.Channels.{channel_work}
+use Rattle.resin_eval_queries.specs.Under.meaning_forms.Programs.{evals}
+use Rattle.resin_eval_queries.specs.Under.meaning_forms.declared.callee.ChannelFunction.{ChannelFunction}
+use Rattle.resin_eval_queries.proofs.eval_nested_lemmas.Arms.{does_given}
+use Rattle.resin_eval_queries.proofs.eval_nested_lemmas.Exits.{does_is, does_seen_exit}
+use Rattle.resin_eval_queries.proofs.meaning_lemmas.Composition.{does_act, does_give, does_loosely, does_next}
+use Rattle.resin_eval_queries.specs.Under.value.Seen.{trees_of}
 use Rattle.std.proofs.Common.{ap}
 use Rattle.resin_eval_channels.proofs.channels.Sender.channel_work.Goals as goal
 
@@ -71,4 +70,4 @@ returns-in-FileExists g c =
 
 pub returns-in-SqlQuery : goal.returns-in-SqlQuery
 returns-in-SqlQuery g c =
-    does_is (ap (λ (x : ChannelFunction). channel_work (evals c.args.self.now.by.now.room) x (trees_of c.args.args.now)) c.in-SqlQuery.is) (does_unbuilt _ _ _ c.unbuilt.ensures)
+    does_is (ap (λ (x : ChannelFunction). channel_work (evals c.args.self.now.by.now.room) x (trees_of c.args.args.now)) c.in-SqlQuery.is) (c.query_work.ensures)

@@ -1,8 +1,8 @@
-use Rattle.resin_eval_writes.specs.Under.meaning_forms.Channels.{flushed}
-use Rattle.resin_eval_writes.specs.Under.meaning_forms.Programs.{evals}
-use Rattle.resin_eval_writes.proofs.eval_nested_lemmas.Exits.{does_is, does_seen_exit}
-use Rattle.resin_eval_writes.specs.Under.lstr.Texts.{Text as LabelledText}
-use Rattle.resin_eval_writes.proofs.meaning_lemmas.Composition.{does_give, does_next}
+use Rattle.resin_eval_queries.specs.Under.meaning_forms.Channels.{flushed}
+use Rattle.resin_eval_queries.specs.Under.meaning_forms.Programs.{evals}
+use Rattle.resin_eval_queries.proofs.eval_nested_lemmas.Exits.{does_is, does_seen_exit}
+use Rattle.resin_eval_queries.specs.Under.lstr.Texts.{Text as LabelledText}
+use Rattle.resin_eval_queries.proofs.meaning_lemmas.Composition.{does_give, does_next}
 use Rattle.std.proofs.Common.{Option, ap}
 use Rattle.resin_eval_channels.proofs.channels.Sender.flushed.Goals as goal
 

@@ -1,11 +1,11 @@
-use Rattle.resin_eval_writes.specs.Under.meaning_forms.declared.outgoing.Outgoing.TheVariants.{Mail}
-use Rattle.resin_eval_writes.specs.Under.meaning_forms.Writes.{leave}
-use Rattle.resin_eval_writes.specs.Under.meaning_forms.Programs.{evals}
-use Rattle.resin_eval_writes.specs.Under.heap.declared.prelude.PreludeClass.TheVariants.{ValueError}
-use Rattle.resin_eval_writes.proofs.eval_nested_lemmas.Arms.{does_no, does_yes}
-use Rattle.resin_eval_writes.proofs.eval_nested_lemmas.Exits.{does_is, does_seen_exit, does_seen_unbegun}
-use Rattle.resin_eval_writes.proofs.meaning_lemmas.Composition.{does_give, does_next}
-use Rattle.resin_eval_writes.proofs.step_parts_lemmas.Steps.{thrown_seen}
+use Rattle.resin_eval_queries.specs.Under.meaning_forms.declared.outgoing.Outgoing.TheVariants.{Mail}
+use Rattle.resin_eval_queries.specs.Under.meaning_forms.Writes.{leave}
+use Rattle.resin_eval_queries.specs.Under.meaning_forms.Programs.{evals}
+use Rattle.resin_eval_queries.specs.Under.heap.declared.prelude.PreludeClass.TheVariants.{ValueError}
+use Rattle.resin_eval_queries.proofs.eval_nested_lemmas.Arms.{does_no, does_yes}
+use Rattle.resin_eval_queries.proofs.eval_nested_lemmas.Exits.{does_is, does_seen_exit, does_seen_unbegun}
+use Rattle.resin_eval_queries.proofs.meaning_lemmas.Composition.{does_give, does_next}
+use Rattle.resin_eval_queries.proofs.step_parts_lemmas.Steps.{thrown_seen}
 use Rattle.std.proofs.Common.{sym, ◌∙◌}
 use Rattle.resin_eval_channels.proofs.channels.Sender.leave_mail.Goals as goal
 

@@ -1,11 +1,11 @@
-use Rattle.resin_eval_writes.specs.Under.label.Sets.{empty as no_labels}
-use Rattle.resin_eval_writes.specs.Under.value.Trees.{integer}
+use Rattle.resin_eval_queries.specs.Under.label.Sets.{empty as no_labels}
+use Rattle.resin_eval_queries.specs.Under.value.Trees.{integer}
 use mir.Val.{SFits}
 use Rattle.std.proofs.lemmas.Int.{to_z-of_z}
-use Rattle.resin_eval_writes.proofs.eval_nested_lemmas.Arms.{does_given, does_looked}
-use Rattle.resin_eval_writes.proofs.eval_nested_lemmas.Exits.{does_seen_exit, does_seen_unbegun}
-use Rattle.resin_eval_writes.proofs.meaning_lemmas.Composition.{does_next}
-use Rattle.resin_eval_writes.specs.Under.value.Seen.{tree_of}
+use Rattle.resin_eval_queries.proofs.eval_nested_lemmas.Arms.{does_given, does_looked}
+use Rattle.resin_eval_queries.proofs.eval_nested_lemmas.Exits.{does_seen_exit, does_seen_unbegun}
+use Rattle.resin_eval_queries.proofs.meaning_lemmas.Composition.{does_next}
+use Rattle.resin_eval_queries.specs.Under.value.Seen.{tree_of}
 use Rattle.std.proofs.Common.{ap, rules, w64, ℤ, ◌∙◌}
 use Rattle.resin_eval_channels.proofs.channels.Sender.leave_status.Goals as goal
 

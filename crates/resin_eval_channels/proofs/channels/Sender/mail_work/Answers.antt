@@ -1,11 +1,11 @@
-use Rattle.resin_eval_writes.specs.Under.meaning_forms.Channels.{channel_work}
-use Rattle.resin_eval_writes.specs.Under.meaning_forms.Programs.{evals}
-use Rattle.resin_eval_writes.specs.Under.meaning_forms.declared.callee.ChannelFunction.TheVariants.{Mail}
+use Rattle.resin_eval_queries.specs.Under.meaning_forms.Channels.{channel_work}
+use Rattle.resin_eval_queries.specs.Under.meaning_forms.Programs.{evals}
+use Rattle.resin_eval_queries.specs.Under.meaning_forms.declared.callee.ChannelFunction.TheVariants.{Mail}
 use Rattle.resin_eval_channels.proofs.Values.{mail_more, no_short_mail, opened_thrice}
-use Rattle.resin_eval_writes.proofs.eval_nested_lemmas.Exits.{does_is}
-use Rattle.resin_eval_channels.proofs.Unbuilt.{does_unbuilt}
-use Rattle.resin_eval_writes.specs.Under.value.Seen.{tree_of, trees_of}
-use Rattle.resin_eval_writes.specs.Under.value.declared.value.Value.{Value}
+use Rattle.resin_eval_queries.proofs.eval_nested_lemmas.Exits.{does_is}
+use Rattle.resin_eval_channels.proofs.Unfit.{does_unfit}
+use Rattle.resin_eval_queries.specs.Under.value.Seen.{tree_of, trees_of}
+use Rattle.resin_eval_queries.specs.Under.value.declared.value.Value.{Value}
 use Rattle.std.proofs.Common.{List, ap, drop, ◌∙◌}
 use Rattle.std.proofs.lemmas.List.{length-map}
 use Rattle.resin_eval_channels.proofs.channels.Sender.mail_work.Goals as goal
@@ -16,4 +16,4 @@ returns-in-len3-up g c =
 
 pub returns-in_default : goal.returns-in_default
 returns-in_default g c =
-    does_is (no_short_mail (evals c.args.self.now.by.now.room) (trees_of c.args.args.now) (rw (length-map) c.in_default.len_below)) (does_unbuilt _ _ _ c.unbuilt.ensures)
+    does_is (no_short_mail (evals c.args.self.now.by.now.room) (trees_of c.args.args.now) (rw (length-map) c.in_default.len_below)) (does_unfit _ _ _ c.unfit.ensures)

@@ -1,13 +1,13 @@
-use Rattle.resin_eval_writes.specs.Under.heap.declared.prelude.PreludeClass.TheVariants.{ValueError}
-use Rattle.resin_eval_writes.specs.Under.meaning_forms.Channels.{set_status}
-use Rattle.resin_eval_writes.specs.Under.meaning_forms.Programs.{evals}
+use Rattle.resin_eval_queries.specs.Under.heap.declared.prelude.PreludeClass.TheVariants.{ValueError}
+use Rattle.resin_eval_queries.specs.Under.meaning_forms.Channels.{set_status}
+use Rattle.resin_eval_queries.specs.Under.meaning_forms.Programs.{evals}
 use Rattle.resin_eval_channels.proofs.Values.{settled_text, told_status}
-use Rattle.resin_eval_writes.proofs.eval_nested_lemmas.Arms.{does_settled}
-use Rattle.resin_eval_writes.proofs.eval_nested_lemmas.Exits.{does_is, does_seen_exit}
-use Rattle.resin_eval_writes.proofs.meaning_lemmas.Composition.{does_next}
-use Rattle.resin_eval_writes.proofs.step_parts_lemmas.Steps.{thrown_seen}
-use Rattle.resin_eval_writes.proofs.step_parts_lemmas.Answered.{gives_or}
-use Rattle.resin_eval_writes.specs.Under.value.Seen.{tree_of}
+use Rattle.resin_eval_queries.proofs.eval_nested_lemmas.Arms.{does_settled}
+use Rattle.resin_eval_queries.proofs.eval_nested_lemmas.Exits.{does_is, does_seen_exit}
+use Rattle.resin_eval_queries.proofs.meaning_lemmas.Composition.{does_next}
+use Rattle.resin_eval_queries.proofs.step_parts_lemmas.Steps.{thrown_seen}
+use Rattle.resin_eval_queries.proofs.step_parts_lemmas.Answered.{gives_or}
+use Rattle.resin_eval_queries.specs.Under.value.Seen.{tree_of}
 use Rattle.std.proofs.Common.{Option, ap, sym, ℕ, ◌∙◌}
 use Rattle.resin_eval_channels.proofs.channels.Sender.set_status.Goals as goal
 

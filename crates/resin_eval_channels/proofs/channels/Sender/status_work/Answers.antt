@@ -1,11 +1,11 @@
-use Rattle.resin_eval_writes.specs.Under.meaning_forms.Channels.{channel_work}
-use Rattle.resin_eval_writes.specs.Under.meaning_forms.Programs.{evals}
-use Rattle.resin_eval_writes.specs.Under.meaning_forms.declared.callee.ChannelFunction.TheVariants.{ResponseCode}
-use Rattle.resin_eval_writes.proofs.eval_nested_lemmas.Arguments.{empty_list, opened}
-use Rattle.resin_eval_writes.proofs.eval_nested_lemmas.Exits.{does_is}
-use Rattle.resin_eval_channels.proofs.Unbuilt.{does_unbuilt}
-use Rattle.resin_eval_writes.specs.Under.value.Seen.{trees_of}
-use Rattle.resin_eval_writes.specs.Under.value.declared.value.Value.{Value}
+use Rattle.resin_eval_queries.specs.Under.meaning_forms.Channels.{channel_work}
+use Rattle.resin_eval_queries.specs.Under.meaning_forms.Programs.{evals}
+use Rattle.resin_eval_queries.specs.Under.meaning_forms.declared.callee.ChannelFunction.TheVariants.{ResponseCode}
+use Rattle.resin_eval_queries.proofs.eval_nested_lemmas.Arguments.{empty_list, opened}
+use Rattle.resin_eval_queries.proofs.eval_nested_lemmas.Exits.{does_is}
+use Rattle.resin_eval_channels.proofs.Unfit.{does_unfit}
+use Rattle.resin_eval_queries.specs.Under.value.Seen.{trees_of}
+use Rattle.resin_eval_queries.specs.Under.value.declared.value.Value.{Value}
 use Rattle.std.proofs.Common.{List, ap}
 use Rattle.resin_eval_channels.proofs.channels.Sender.status_work.Goals as goal
 
@@ -15,4 +15,4 @@ returns-in-len1-up g c =
 
 pub returns-in-empty : goal.returns-in-empty
 returns-in-empty g c =
-    does_is (ap (λ (xs : List Value). channel_work (evals c.args.self.now.by.now.room) ResponseCode (trees_of xs)) (empty_list _ c.in-empty.len_below)) (does_unbuilt _ _ _ c.unbuilt.ensures)
+    does_is (ap (λ (xs : List Value). channel_work (evals c.args.self.now.by.now.room) ResponseCode (trees_of xs)) (empty_list _ c.in-empty.len_below)) (does_unfit _ _ _ c.unfit.ensures)

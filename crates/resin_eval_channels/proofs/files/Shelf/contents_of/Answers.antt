@@ -1,9 +1,9 @@
-use Rattle.resin_eval_writes.specs.Under.meaning_forms.Files.{contents_of}
-use Rattle.resin_eval_writes.specs.Under.meaning_forms.Programs.{evals}
-use Rattle.resin_eval_writes.specs.Under.store.Entries.{lift}
-use Rattle.resin_eval_writes.specs.Under.base.declared.files.Entry.{Entry}
-use Rattle.resin_eval_writes.proofs.eval_nested_lemmas.Exits.{does_is, does_seen_exit, does_seen_lost}
-use Rattle.resin_eval_writes.proofs.meaning_lemmas.Composition.{does_give, does_next}
+use Rattle.resin_eval_queries.specs.Under.meaning_forms.Files.{contents_of}
+use Rattle.resin_eval_queries.specs.Under.meaning_forms.Programs.{evals}
+use Rattle.resin_eval_queries.specs.Under.store.Entries.{lift}
+use Rattle.resin_eval_queries.specs.Under.base.declared.files.Entry.{Entry}
+use Rattle.resin_eval_queries.proofs.eval_nested_lemmas.Exits.{does_is, does_seen_exit, does_seen_lost}
+use Rattle.resin_eval_queries.proofs.meaning_lemmas.Composition.{does_give, does_next}
 use Rattle.std.specs.Option.{option_map}
 use Rattle.std.proofs.Common.{Option, ap}
 use Rattle.resin_eval_channels.proofs.files.Shelf.contents_of.Goals as goal

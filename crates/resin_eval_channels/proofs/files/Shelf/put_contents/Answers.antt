@@ -1,10 +1,10 @@
 use mir.Val.{SFits}
-use Rattle.resin_eval_writes.specs.Under.heap.declared.prelude.PreludeClass.TheVariants.{ValueError}
-use Rattle.resin_eval_writes.specs.Under.meaning_forms.Files.{is_flag, put_data}
-use Rattle.resin_eval_writes.specs.Under.meaning_forms.Programs.{evals}
-use Rattle.resin_eval_writes.proofs.eval_nested_lemmas.Arms.{does_no, does_yes}
-use Rattle.resin_eval_writes.proofs.eval_nested_lemmas.Exits.{does_is}
-use Rattle.resin_eval_writes.proofs.step_parts_lemmas.Steps.{thrown_seen}
+use Rattle.resin_eval_queries.specs.Under.heap.declared.prelude.PreludeClass.TheVariants.{ValueError}
+use Rattle.resin_eval_queries.specs.Under.meaning_forms.Files.{is_flag, put_data}
+use Rattle.resin_eval_queries.specs.Under.meaning_forms.Programs.{evals}
+use Rattle.resin_eval_queries.proofs.eval_nested_lemmas.Arms.{does_no, does_yes}
+use Rattle.resin_eval_queries.proofs.eval_nested_lemmas.Exits.{does_is}
+use Rattle.resin_eval_queries.proofs.step_parts_lemmas.Steps.{thrown_seen}
 use Rattle.std.proofs.Common.{ap, rules, sym, w64, ℤ, ◌∙◌}
 use Rattle.std.proofs.lemmas.Int.{to_z-of_z}
 use Rattle.resin_eval_channels.proofs.files.Shelf.put_contents.Goals as goal

@@ -1,11 +1,11 @@
 use mir.Val.{SFits}
-use Rattle.resin_eval_writes.specs.Under.meaning_forms.Files.{to_hold}
-use Rattle.resin_eval_writes.specs.Under.label.Sets.{empty as no_labels}
-use Rattle.resin_eval_writes.specs.Under.value.Trees.{integer}
-use Rattle.resin_eval_writes.specs.Under.value.Seen.{tree_of}
-use Rattle.resin_eval_writes.proofs.eval_nested_lemmas.Arms.{does_given}
-use Rattle.resin_eval_writes.proofs.eval_nested_lemmas.Exits.{does_is, does_seen_exit, does_seen_lost, does_seen_unbegun}
-use Rattle.resin_eval_writes.proofs.meaning_lemmas.Composition.{does_next}
+use Rattle.resin_eval_queries.specs.Under.meaning_forms.Files.{to_hold}
+use Rattle.resin_eval_queries.specs.Under.label.Sets.{empty as no_labels}
+use Rattle.resin_eval_queries.specs.Under.value.Trees.{integer}
+use Rattle.resin_eval_queries.specs.Under.value.Seen.{tree_of}
+use Rattle.resin_eval_queries.proofs.eval_nested_lemmas.Arms.{does_given}
+use Rattle.resin_eval_queries.proofs.eval_nested_lemmas.Exits.{does_is, does_seen_exit, does_seen_lost, does_seen_unbegun}
+use Rattle.resin_eval_queries.proofs.meaning_lemmas.Composition.{does_next}
 use Rattle.resin_eval_channels.proofs.Holding.{are_written, frozen_length}
 use Rattle.std.proofs.Common.{ap, arith, length, pos, w64, ◌<◌, ◌^◌, rules, sym, ℤ, ◌∙◌}
 use Rattle.std.proofs.lemmas.Int.{to_z-of_z, to_z_pos}

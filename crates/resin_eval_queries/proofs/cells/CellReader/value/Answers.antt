@@ -1,0 +1,25 @@
+use Rattle.std.proofs.Common.{◌≡◌, ⊥, refl, ap, sym, ℤ}
+use Rattle.resin_eval_writes.specs.Under.base.declared.cell.Cell.{Cell}
+use Rattle.resin_eval_writes.specs.Under.base.declared.cell.Cell.TheVariants as cell
+use Rattle.resin_eval_writes.specs.Under.label.Sets.{NumberSet}
+use Rattle.resin_eval_writes.specs.Under.lstr.Texts.{Text as LabelledText}
+use Rattle.resin_eval_writes.specs.Under.meaning_forms.Cells.{read_text, read_value}
+use Rattle.resin_eval_writes.specs.Under.meaning_forms.Parts.{Evals}
+use Rattle.resin_eval_writes.specs.Under.meaning_forms.Programs.{evals}
+use Rattle.resin_eval_writes.specs.Under.value.Trees.{integer}
+use Rattle.resin_eval_writes.proofs.eval_nested_lemmas.Arms.{does_given}
+use Rattle.resin_eval_writes.proofs.eval_nested_lemmas.Exits.{does_is, does_seen_none}
+use Rattle.resin_eval_queries.proofs.Values.{read_as_text}
+use Rattle.resin_eval_queries.proofs.cells.CellReader.value.Goals as goal
+
+pub returns-in_err-first_set : goal.returns-in_err-first_set
+returns-in_err-first_set g c =
+    does_is (ap (λ (v : Cell). read_value (evals c.args.self.now.by.now.room) c.args.column.now v c.args.text) c.in-Int.is) (does_seen_none _ _ _ c.from_residual.ensures.1)
+
+pub returns-in-Int : goal.returns-in-Int
+returns-in-Int g c =
+    does_is (ap (λ (v : Cell). read_value (evals c.args.self.now.by.now.room) c.args.column.now v c.args.text) c.in-Int.is) (does_given _ _ (ap (λ (s : NumberSet). integer _ s) c.in_ok-first_set.ensures))
+
+pub returns-in_default : goal.returns-in_default
+returns-in_default g c =
+    does_is (read_as_text (evals c.args.self.now.by.now.room) c.args.column.now c.args.value.now c.args.text c.in_default.not-Int) c.text.ensures
