@@ -1,0 +1,108 @@
+-- Sessions of visitors, as programs over the state and the keepers: what `$_SESSION` holds when a request ends is there in the next one that names the session
+-- (PHP manual, "Sessions"; the names, what is kept, its policies and its charges are this project's).
+use Rattle.std.specs.Prelude.{ℕ, Bool, ◌==◌, ◌&&◌, ◌||◌, nat_le, List, [], ◌++◌, length, zip, codes, Option, Some, None, if◌then◌else◌}
+use Rattle.std.specs.List.{list_all}
+use Rattle.std.specs.Str.{bytes_eq}
+use Rattle.resin_inputs.specs.declared.arrays.InputArrays.{InputArrays}
+use Rattle.resin_inputs.specs.Under.lstr.Texts.{Text as LabelledText, bytes_of}
+use Rattle.resin_inputs.specs.Under.scalar.declared.faults.ScriptFault.TheVariants.{BadSession, NotStorable}
+use Rattle.resin_inputs.specs.Under.value.declared.key.Key.TheVariants.{Text as TextKey}
+use Rattle.resin_inputs.specs.Under.value.declared.value.Value.{Value}
+use Rattle.resin_inputs.specs.Under.value.declared.value.Value.TheVariants.{Null, Bool as Boolean, Int, Text, Arr, Object}
+use Rattle.resin_inputs.specs.Under.value.Trees.{Tree, null, boolean, integer, text, array, object}
+use Rattle.resin_inputs.specs.Under.value.Arrays.{Array, EntryList}
+use Rattle.resin_inputs.specs.Under.value.Changes.{lookup, empty}
+use Rattle.resin_session.specs.Reading.{session as session_in}
+use Rattle.resin_session.specs.Texts.{is_storable, session_text}
+use Rattle.resin_interp.specs.Under.base.FileStore.{entry_of}
+use Rattle.resin_interp.specs.Under.base.declared.files.Entry.{Entry}
+use Rattle.resin_interp.specs.Under.machine.Steps.{charge_bytes}
+use Rattle.resin_interp.specs.Under.machine.Variables.{set_session}
+use Rattle.resin_interp.specs.Under.store.Entries.{Marked, LabelledEntry, Good, Second, plain}
+use Rattle.resin_interp.specs.Under.meaning.Programs.{Prog, give, act, ◌>>=◌}
+use Rattle.resin_interp.specs.Under.meaning.KeeperCalls.{read_file, write_file}
+use Rattle.resin_interp.specs.Under.meaning_forms.Keeping.{freeze_text, size, thaw_entry}
+use Rattle.resin_interp.specs.Under.meaning_forms.Operators.{too_long}
+use Rattle.resin_interp.specs.Under.meaning_forms.Parts.{computed, faulted, looked, ◌>>◌}
+
+-- ---- which session a request has
+
+-- `0` to `9`, or `a` to `f`
+abbrev pub is_name_byte : ℕ → Bool
+is_name_byte b = (nat_le 48 b && nat_le b 57) || (nat_le 97 b && nat_le b 102)
+
+-- a name of a session: 32 such bytes
+abbrev pub is_session_name : List ℕ → Bool
+is_session_name w = (length w == 32) && list_all is_name_byte w
+
+-- the session that a cookie names, if it does
+abbrev pub named_by : Option Tree → Option (List ℕ)
+named_by (Some (text t)) = if is_session_name (bytes_of t) then Some (bytes_of t) else None
+named_by o = None
+
+-- the session of a request: that which its cookie `sid` names as it came, whatever the filters of inputs make of it
+abbrev pub session_of : InputArrays → Option (List ℕ)
+session_of inputs = named_by (lookup (TextKey (codes "sid")) inputs.cookie.entries)
+
+-- where a session is kept: at a path that no script can name
+abbrev pub session_path : List ℕ → List ℕ
+session_path name = codes ".resin/s=" ++ name
+
+-- ---- before the file of the request: what is kept becomes `$_SESSION`
+
+-- the array that a text keeps becomes `$_SESSION`; a text that keeps none is BadSession
+abbrev pub set_kept : Option Array → Prog (Unit {0})
+set_kept (Some a) = act (set_session a)
+set_kept None = faulted BadSession
+
+-- an entry is charged by its bytes, and thawed; where there is none, `$_SESSION` is empty
+abbrev pub set_found : Option LabelledEntry → Prog (Unit {0})
+set_found None = act (set_session empty)
+set_found (Some e) = act (charge_bytes (size e)) >> (thaw_entry e >>= λ t. set_kept (session_in t))
+
+-- the entry of a session is read, and `$_SESSION` is set; the entry as it was found
+abbrev pub begin_session : List ℕ → Prog (Option LabelledEntry)
+begin_session name = read_file (session_path name) >>= λ found. set_found found >> give found
+
+-- ---- after it: what `$_SESSION` holds is kept
+
+-- integers and texts alone are kept, of an array alone
+abbrev pub entries_kept : Value → Option EntryList
+entries_kept (Arr a) = if list_all (λ e. is_storable e.1) a.entries then Some a.entries else None
+entries_kept v = None
+
+-- the session text of the entries
+abbrev pub text_of_entries : Option EntryList → Prog LabelledText
+text_of_entries (Some es) = computed (too_long (session_text es))
+text_of_entries None = faulted NotStorable
+
+-- what a keeper holds of the entry that was found; where there was none, of the empty one
+abbrev pub held : Option LabelledEntry → Entry
+held (Some e) = plain e
+held None = entry_of [] []
+
+-- two entries have the same bytes and the same shadow text
+abbrev pub is_same : Entry → Entry → Bool
+is_same e f = bytes_eq e.bytes f.bytes && bytes_eq e.shadow f.shadow
+
+-- an entry is written exactly where it isn't the one that was found
+abbrev pub write_changed : List ℕ → Option LabelledEntry → Marked → Prog (Unit {0})
+write_changed name found d = if is_same (plain (Good d Second)) (held found) then give tt else write_file (session_path name) d
+
+-- a session text is charged by its bytes, its policies are frozen, and it is written where it changed
+abbrev pub keep_text : List ℕ → Option LabelledEntry → LabelledText → Prog (Unit {0})
+keep_text name found t = do
+  act (charge_bytes (length t))
+  marks ← freeze_text t
+  write_changed name found (zip (bytes_of t) marks)
+
+-- what `$_SESSION` holds is kept: NotStorable, TextTooLong, the charge, the freezing, and the write come in this order
+abbrev pub end_session : List ℕ → Option LabelledEntry → Prog (Unit {0})
+end_session name found = looked (λ m. entries_kept m.session) >>= text_of_entries >>= keep_text name found
+
+-- ---- around the file of the request
+
+-- Steps that run in the session that a request has, if it has one; steps that don't come to their end keep nothing
+abbrev pub in_session : Option (List ℕ) → Prog (Unit {0}) → Prog (Unit {0})
+in_session (Some name) p = begin_session name >>= λ found. p >> end_session name found
+in_session None p = p

@@ -1,0 +1,215 @@
+//! Sessions of visitors: which one a request has, what becomes `$_SESSION` before its file, and what is kept after it.
+ghost use Rattle.std.specs.Prelude.{◌≡◌, ◌++◌, [], ◌∷◌, codes, IfOk, Some};
+ghost use Rattle.std.specs.Option.{option_map};
+ghost use Rattle.resin_inputs.specs.Under.lstr.Texts.{bytes_of};
+ghost use Rattle.resin_inputs.specs.Under.value.Seen.{tree_of};
+ghost use Rattle.resin_interp.specs.Under.eval_nested.Running.{Performs};
+ghost use Rattle.resin_interp.specs.Under.meaning.KeeperCalls.{lifted};
+ghost use Rattle.resin_interp.specs.Under.meaning.Programs.{◌>>=◌};
+ghost use Rattle.resin_interp.specs.Under.meaning_forms.Runs.{Runs};
+ghost use Rattle.resin_interp.specs.Under.store.Entries.{AreWritten, Marked, lift};
+ghost use Rattle.resin_request.specs.Sessions as spec;
+
+use resin_inputs::InputArrays;
+use resin_inputs::under::lstr::LText;
+use resin_inputs::under::scalar::ScriptFault;
+use resin_inputs::under::value::{Arr, Key, KeyText, Value};
+use resin_interp::under::base::{Entry, Files, Tables};
+use resin_interp::{Machine, Run, Stop, charge_bytes, freeze_text, session, set_session, thaw_entry};
+use resin_session::{SessionFault, read_session, write_session};
+use resin_shadow::encode;
+use std::alloc::{AllocError, Global};
+
+// `0` to `9`, or `a` to `f`.
+fn is_name_byte(b: u8) -> bool
+    ensures { result ≡ spec.is_name_byte b }
+{
+    matches!(b, b'0'..=b'9' | b'a'..=b'f')
+}
+
+// Whether a text names a session.
+fn is_session_name(name: &[u8]) -> bool
+    ensures { result ≡ spec.is_session_name name.now }
+{
+    name.len() == 32 && name.iter().all(|b| is_name_byte(*b))
+}
+
+// The session that a cookie names, if it does.
+fn named_by(cookie: Option<&Value>) -> Option<&[u8]>
+    ensures { option_map (λ n. n.now) result ≡ spec.named_by (option_map (λ v. tree_of v.now) cookie) }
+{
+    match cookie {
+        Some(Value::Text(text)) if is_session_name(text.bytes()) => Some(text.bytes()),
+        _ => None,
+    }
+}
+
+/// The session of a request: that which its cookie `sid` names as it came, by 32 bytes `0` to `9` or `a` to `f`, if it does.
+pub(crate) fn session_of(alloc: Global, inputs: &InputArrays) -> Result<Option<&[u8]>, AllocError>
+    ensures { IfOk result (λ name. option_map (λ n. n.now) name ≡ spec.session_of inputs.now) }
+{
+    let sid = Key::Text(KeyText::from_slice(alloc, b"sid")?);
+    Ok(named_by(inputs.cookie.get(&sid)))
+}
+
+// The path of the entry of a session.
+fn session_path(alloc: Global, name: &[u8]) -> Result<Vec<u8>, AllocError>
+    ensures { IfOk result (λ path. path.items ≡ spec.session_path name.now) }
+{
+    let mut path = Vec::from_slice(alloc, b".resin/s=")?;
+    path.extend_from_slice(name)?;
+    Ok(path)
+}
+
+// The array that a text keeps becomes `$_SESSION`.
+fn set_kept(m: &mut Machine, kept: Option<Arr>) -> Result<(), Stop>
+    ensures { Runs (spec.set_kept kept) m.old result m.new }
+{
+    match kept {
+        Some(array) => {
+            set_session(m, array);
+            Ok(())
+        }
+        None => Err(m.fault(ScriptFault::BadSession)),
+    }
+}
+
+// What an entry keeps becomes `$_SESSION`.
+fn set_entry(alloc: Global, m: &mut Machine, e: &Entry) -> Result<(), Stop>
+    ensures { Runs (spec.set_found (Some (lift e.now))) m.old result m.new }
+{
+    charge_bytes(m, e.bytes.as_slice().len() as u64)?;
+    let text = thaw_entry(alloc, m, e)?;
+    let kept = read_session(alloc, &text)?;
+    set_kept(m, kept)
+}
+
+// `$_SESSION` is empty.
+fn set_empty(alloc: Global, m: &mut Machine) -> Result<(), Stop>
+    ensures { Runs (spec.set_found None) m.old result m.new }
+{
+    set_session(m, Arr::new(alloc)?);
+    Ok(())
+}
+
+// What was found becomes `$_SESSION`.
+fn set_found(alloc: Global, m: &mut Machine, found: &Option<Entry>) -> Result<(), Stop>
+    ensures { Runs (spec.set_found (option_map lift found.now)) m.old result m.new }
+{
+    match found {
+        Some(e) => set_entry(alloc, m, e),
+        None => set_empty(alloc, m),
+    }
+}
+
+/// Reads the entry of a session, makes what it keeps `$_SESSION`, and answers the entry as it was found.
+///
+/// # Errors
+///
+/// `Keeper` where the read failed; `FuelSpent` where there is not a tick for each 256 bytes of the entry and for each policy that it keeps; `TextTooLong` and `BadShadow`
+/// where it can't be thawed; `BadSession` where its text keeps no array.
+pub(crate) fn begin_session<F: Files, T: Tables>(
+    alloc: Global,
+    run: &mut Run<F, T>,
+    name: &[u8],
+) -> Result<Option<Entry>, Stop>
+    ensures { Performs F.Files T.Tables (spec.begin_session name.now) run.old (lifted result) run.new }
+{
+    let path = session_path(alloc, name)?;
+    let found = run.read_file(path.as_slice())?;
+    set_found(alloc, &mut run.machine, &found)?;
+    Ok(found)
+}
+
+// The session text of an array.
+fn text_of_array(alloc: Global, m: &Machine, a: &Arr) -> Result<LText, Stop>
+    ensures { Runs (spec.text_of_entries (spec.entries_kept (AnyValue.Arr a.now))) m.now result m.now }
+{
+    match write_session(alloc, a) {
+        Ok(text) => Ok(text),
+        Err(SessionFault::NotStorable) => Err(m.fault(ScriptFault::NotStorable)),
+        Err(SessionFault::TooLong) => Err(m.fault(ScriptFault::TextTooLong)),
+        Err(SessionFault::Memory) => Err(Stop::Memory),
+    }
+}
+
+// The session text of `$_SESSION`.
+fn session_text(alloc: Global, m: &Machine) -> Result<LText, Stop>
+    ensures { Runs (spec.text_of_entries (spec.entries_kept m.now.session)) m.now result m.now }
+{
+    match session(m) {
+        Value::Arr(array) => text_of_array(alloc, m, array),
+        _ => Err(m.fault(ScriptFault::NotStorable)),
+    }
+}
+
+// Whether an entry has these bytes and this shadow text.
+fn has_texts(e: &Entry, bytes: &[u8], shadow: &[u8]) -> bool
+    ensures { result ≡ spec.is_same (entry_of bytes.now shadow.now) e.now }
+{
+    bytes == e.bytes.as_slice() && shadow == e.shadow.as_slice()
+}
+
+// Whether these bytes and this shadow text are what was found, where nothing counts as empty.
+fn is_held(found: &Option<Entry>, bytes: &[u8], shadow: &[u8]) -> bool
+    ensures { result ≡ spec.is_same (entry_of bytes.now shadow.now) (spec.held (option_map lift found.now)) }
+{
+    match found {
+        Some(e) => has_texts(e, bytes, shadow),
+        None => bytes.is_empty() && shadow.is_empty(),
+    }
+}
+
+// Writes an entry of a session, where it isn't the one that was found.
+fn write_changed<F: Files, T: Tables>(
+    alloc: Global,
+    run: &mut Run<F, T>,
+    name: &[u8],
+    found: &Option<Entry>,
+    bytes: &[u8],
+    shadow: &[u8],
+) -> Result<(), Stop>
+    ensures { (d : Marked) → AreWritten bytes.now shadow.now d → Performs F.Files T.Tables (spec.write_changed name.now (option_map lift found.now) d) run.old result run.new }
+{
+    if is_held(found, bytes, shadow) {
+        return Ok(());
+    }
+    let path = session_path(alloc, name)?;
+    run.write_file(path.as_slice(), bytes, shadow)
+}
+
+// A session text is charged, its policies are frozen, and it is written where it changed.
+fn keep_text<F: Files, T: Tables>(
+    alloc: Global,
+    run: &mut Run<F, T>,
+    name: &[u8],
+    found: &Option<Entry>,
+    text: &LText,
+) -> Result<(), Stop>
+    ensures { Performs F.Files T.Tables (spec.keep_text name.now (option_map lift found.now) text.now) run.old result run.new }
+{
+    charge_bytes(&mut run.machine, text.len() as u64)?;
+    let marks = freeze_text(alloc, &run.machine, text)?;
+    let bytes = text.bytes();
+    prove!(marks.len() == bytes.len() as u64);
+    let shadow = encode(alloc, &marks)?;
+    write_changed(alloc, run, name, found, bytes, shadow.as_slice())
+}
+
+/// Keeps what `$_SESSION` holds, by a write exactly where bytes or shadow text differ from those that were found; where none were, from empty ones.
+///
+/// # Errors
+///
+/// In this order: `NotStorable` where `$_SESSION` is no array, or holds what is neither an integer nor a text; `TextTooLong` where its text would be longer than 16,777,216
+/// bytes; `FuelSpent` where there is not a tick for each 256 bytes of it; `NotStorable` for a policy that can't be kept; `Keeper` where the write failed.
+pub(crate) fn end_session<F: Files, T: Tables>(
+    alloc: Global,
+    run: &mut Run<F, T>,
+    name: &[u8],
+    found: &Option<Entry>,
+) -> Result<(), Stop>
+    ensures { Performs F.Files T.Tables (spec.end_session name.now (option_map lift found.now)) run.old result run.new }
+{
+    let text = session_text(alloc, &run.machine)?;
+    keep_text(alloc, run, name, found, &text)
+}
