@@ -17,7 +17,7 @@ use resin_eval_writes::under::eval_nested::nested::{Evaluator, Nested, Outcome};
 use resin_eval_writes::under::eval_nested::run::Run;
 use resin_eval_writes::under::heap::PreludeClass;
 use resin_eval_writes::under::journal::Channel;
-use resin_eval_writes::under::lstr::{LText, MAX_LEN};
+use resin_eval_writes::under::lstr::{LText, LONGEST};
 use resin_eval_writes::under::machine::{Machine, Stop};
 use resin_eval_writes::under::scalar::ScriptFault;
 use resin_eval_writes::under::step_parts::reads::number;
@@ -87,13 +87,13 @@ fn behind_held(alloc: Global, m: &Machine, entry: &Entry, new: Held) -> Result<H
     ensures held { IfOk result IsHeld }
 {
     let len = entry.bytes.as_slice().len();
-    if len > MAX_LEN {
+    if len > LONGEST {
         return Err(m.fault(ScriptFault::TextTooLong));
     }
     let Some(mut marks) = policies_of(alloc, entry)? else {
         return Err(m.fault(ScriptFault::BadShadow));
     };
-    if len + new.len() > MAX_LEN {
+    if len + new.len() > LONGEST {
         return Err(m.fault(ScriptFault::TextTooLong));
     }
     let bytes = joined_bytes(alloc, entry.bytes.as_slice(), new.bytes.as_slice())?;

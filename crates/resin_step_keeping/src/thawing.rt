@@ -13,7 +13,7 @@ use resin_shadow::FrozenRuns;
 use resin_step_parts::reads::plain;
 use resin_step_parts::under::base::Entry;
 use resin_step_parts::under::heap::PreludeClass;
-use resin_step_parts::under::lstr::{LText, MAX_LEN};
+use resin_step_parts::under::lstr::{LText, LONGEST};
 use resin_step_parts::under::machine::{Machine, Stop};
 use resin_step_parts::under::scalar::ScriptFault;
 use resin_step_parts::under::store::policies_of;
@@ -30,7 +30,7 @@ pub fn thaw_entry(alloc: Global, m: &mut Machine, entry: &Entry) -> Result<LText
     ensures { Runs (meaning.thaw_entry (lift entry.now)) m.old result m.new }
 {
     let bytes = entry.bytes.as_slice();
-    if bytes.len() > MAX_LEN {
+    if bytes.len() > LONGEST {
         return Err(m.fault(ScriptFault::TextTooLong));
     }
     let runs = policies_of(alloc, entry)?;
