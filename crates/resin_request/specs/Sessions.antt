@@ -1,6 +1,7 @@
--- Sessions of visitors, as programs over the state and the keepers: what `$_SESSION` holds when a request ends is there in the next one that names the session
--- (PHP manual, "Sessions"; the names, what is kept, its policies and its charges are this project's).
-use Rattle.std.specs.Prelude.{ℕ, Bool, ◌==◌, ◌&&◌, ◌||◌, nat_le, List, [], ◌++◌, length, zip, codes, Option, Some, None, if◌then◌else◌}
+-- Sessions of visitors, as programs over the state and the keepers: what `$_SESSION` holds when a request ends is there in the next one that names
+-- the session (PHP manual, "Sessions"; the names, what is kept, its policies and its charges are this project's).
+use Rattle.std.specs.Prelude.{ℕ, Bool, ◌==◌, ◌&&◌, ◌||◌, nat_le, List, [], ◌++◌, length, zip, codes}
+use Rattle.std.specs.Prelude.{Option, Some, None, if◌then◌else◌}
 use Rattle.std.specs.List.{list_all}
 use Rattle.std.specs.Str.{bytes_eq}
 use Rattle.resin_inputs.specs.declared.arrays.InputArrays.{InputArrays}

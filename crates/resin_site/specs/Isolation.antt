@@ -50,7 +50,8 @@ pub record SayTheSame (r r' : Reply) : Type 0 where
   pub calls : r.calls ≡ r'.calls
   pub made : r.after.made ≡ r'.after.made
 
--- what a request does from two stores that agree for it: the replies say the same, the new stores agree in the same way, and each keeps every other session
+-- what a request does from two stores that agree for it: the replies say the same, the new stores agree in the same way, and each keeps every other
+-- session
 pub record Isolates (own : Option (List ℕ)) (s t : Store) (r r' : Reply) : Type 0 where
   pub same : SayTheSame r r'
   pub agree : AgreeFor own r.after.store r'.after.store
