@@ -167,7 +167,7 @@ bound_other name m m0 frames e0 i k e =
     subst (λ (x : State). Acts (bind_global name) x (Ok tt) (record m0 { frames = frames })) e0
     (gives_inside (bind_global name) m0 tt _
     (ap (λ b. as_done (cond b m0 (cond (is_session name) m0 (binding name m0)))) i ∙ (ap (λ b. as_done (cond b m0 (binding name m0))) k
-        ∙ ap (λ (x : Frames). let p : Result (Unit {0}) Stop × State = (Ok tt, record m0 { frames = x }) in p) (sym e)))
+    ∙ ap (λ (x : Frames). let p : Result (Unit {0}) Stop × State = (Ok tt, record m0 { frames = x }) in p) (sym e)))
     (frames_inside m0 frames (ap (λ (x : Frames). length x.calls) e ∙ bound_open name m0.frames)))
 
 -- the value of a variable, by where it stands

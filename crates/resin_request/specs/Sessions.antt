@@ -1,6 +1,6 @@
 -- Sessions of visitors, as programs over the state and the keepers: what `$_SESSION` holds when a request ends is there in the next one that names
 -- the session (PHP manual, "Sessions"; the names, what is kept, its policies and its charges are this project's).
-use Rattle.std.specs.Prelude.{ℕ, Bool, ◌==◌, ◌&&◌, ◌||◌, nat_le, List, [], ◌++◌, length, zip, codes}
+use Rattle.std.specs.Prelude.{ℕ, Bool, ◌&&◌, List, [], length, zip, codes}
 use Rattle.std.specs.Prelude.{Option, Some, None, if◌then◌else◌}
 use Rattle.std.specs.List.{list_all}
 use Rattle.std.specs.Str.{bytes_eq}
@@ -25,29 +25,22 @@ use Rattle.resin_interp.specs.Under.meaning.KeeperCalls.{read_file, write_file}
 use Rattle.resin_interp.specs.Under.meaning_forms.Keeping.{freeze_text, size, thaw_entry}
 use Rattle.resin_interp.specs.Under.meaning_forms.Operators.{too_long}
 use Rattle.resin_interp.specs.Under.meaning_forms.Parts.{computed, faulted, looked, ◌>>◌}
+use Rattle.resin_interp.specs.Under.meaning_forms.Sessions.{is_session_name, session_path}
 
 -- ---- which session a request has
 
--- `0` to `9`, or `a` to `f`
-abbrev pub is_name_byte : ℕ → Bool
-is_name_byte b = (nat_le 48 b && nat_le b 57) || (nat_le 97 b && nat_le b 102)
-
--- a name of a session: 32 such bytes
-abbrev pub is_session_name : List ℕ → Bool
-is_session_name w = (length w == 32) && list_all is_name_byte w
+-- the session that a text names, if it does
+abbrev pub name_in : List ℕ → Option (List ℕ)
+name_in w = if is_session_name w then Some w else None
 
 -- the session that a cookie names, if it does
 abbrev pub named_by : Option Tree → Option (List ℕ)
-named_by (Some (text t)) = if is_session_name (bytes_of t) then Some (bytes_of t) else None
+named_by (Some (text t)) = name_in (bytes_of t)
 named_by o = None
 
 -- the session of a request: that which its cookie `sid` names as it came, whatever the filters of inputs make of it
 abbrev pub session_of : InputArrays → Option (List ℕ)
 session_of inputs = named_by (lookup (TextKey (codes "sid")) inputs.cookie.entries)
-
--- where a session is kept: at a path that no script can name
-abbrev pub session_path : List ℕ → List ℕ
-session_path name = codes ".resin/s=" ++ name
 
 -- ---- before the file of the request: what is kept becomes `$_SESSION`
 

@@ -1,37 +1,58 @@
 //! Sessions of visitors: which one a request has, what becomes `$_SESSION` before its file, and what is kept after it.
-ghost use Rattle.std.specs.Prelude.{◌≡◌, ◌++◌, [], ◌∷◌, codes, IfOk, Some};
+ghost use Rattle.std.specs.Prelude.{◌≡◌, IfOk, Some, None};
+ghost use Rattle.std.specs.List.{list_all};
 ghost use Rattle.std.specs.Option.{option_map};
-ghost use Rattle.resin_inputs.specs.Under.lstr.Texts.{bytes_of};
 ghost use Rattle.resin_inputs.specs.Under.value.Seen.{tree_of};
+ghost use Rattle.resin_inputs.specs.Under.value.declared.value.Value.{Value as AnyValue};
+ghost use Rattle.resin_interp.specs.Under.base.FileStore.{entry_of};
 ghost use Rattle.resin_interp.specs.Under.eval_nested.Running.{Performs};
 ghost use Rattle.resin_interp.specs.Under.meaning.KeeperCalls.{lifted};
-ghost use Rattle.resin_interp.specs.Under.meaning.Programs.{◌>>=◌};
 ghost use Rattle.resin_interp.specs.Under.meaning_forms.Runs.{Runs};
+ghost use Rattle.resin_interp.specs.Under.meaning_forms.Sessions as names;
 ghost use Rattle.resin_interp.specs.Under.store.Entries.{AreWritten, Marked, lift};
 ghost use Rattle.resin_request.specs.Sessions as spec;
 
 use resin_inputs::InputArrays;
 use resin_inputs::under::lstr::LText;
-use resin_inputs::under::scalar::ScriptFault;
-use resin_inputs::under::value::{Arr, Key, KeyText, Value};
+use resin_inputs::under::value::{Arr, Key, KeyText, ScriptFault, Value};
 use resin_interp::under::base::{Entry, Files, Tables};
-use resin_interp::{Machine, Run, Stop, charge_bytes, freeze_text, session, set_session, thaw_entry};
+use resin_interp::{
+    Machine, Run, Stop, charge_bytes, freeze_text, session, set_session, thaw_entry,
+};
 use resin_session::{SessionFault, read_session, write_session};
 use resin_shadow::encode;
 use std::alloc::{AllocError, Global};
 
 // `0` to `9`, or `a` to `f`.
 fn is_name_byte(b: u8) -> bool
-    ensures { result ≡ spec.is_name_byte b }
+    ensures { result ≡ names.is_name_byte b }
 {
     matches!(b, b'0'..=b'9' | b'a'..=b'f')
 }
 
+// Whether all bytes of a text may stand in a name.
+fn are_name_bytes(text: &[u8]) -> bool
+    ensures { result ≡ list_all names.is_name_byte text.now }
+{
+    text.iter().all(|b| is_name_byte(*b))
+}
+
 // Whether a text names a session.
 fn is_session_name(name: &[u8]) -> bool
-    ensures { result ≡ spec.is_session_name name.now }
+    ensures { result ≡ names.is_session_name name.now }
 {
-    name.len() == 32 && name.iter().all(|b| is_name_byte(*b))
+    name.len() == 32 && are_name_bytes(name)
+}
+
+// The name that a text is, if it is one.
+fn name_in(text: &[u8]) -> Option<&[u8]>
+    ensures { option_map (λ n. n.now) result ≡ spec.name_in text.now }
+{
+    if is_session_name(text) {
+        Some(text)
+    } else {
+        None
+    }
 }
 
 // The session that a cookie names, if it does.
@@ -39,7 +60,7 @@ fn named_by(cookie: Option<&Value>) -> Option<&[u8]>
     ensures { option_map (λ n. n.now) result ≡ spec.named_by (option_map (λ v. tree_of v.now) cookie) }
 {
     match cookie {
-        Some(Value::Text(text)) if is_session_name(text.bytes()) => Some(text.bytes()),
+        Some(Value::Text(text)) => name_in(text.bytes()),
         _ => None,
     }
 }
@@ -54,7 +75,7 @@ pub(crate) fn session_of(alloc: Global, inputs: &InputArrays) -> Result<Option<&
 
 // The path of the entry of a session.
 fn session_path(alloc: Global, name: &[u8]) -> Result<Vec<u8>, AllocError>
-    ensures { IfOk result (λ path. path.items ≡ spec.session_path name.now) }
+    ensures { IfOk result (λ path. path.items ≡ names.session_path name.now) }
 {
     let mut path = Vec::from_slice(alloc, b".resin/s=")?;
     path.extend_from_slice(name)?;
@@ -106,8 +127,8 @@ fn set_found(alloc: Global, m: &mut Machine, found: &Option<Entry>) -> Result<()
 ///
 /// # Errors
 ///
-/// `Keeper` where the read failed; `FuelSpent` where there is not a tick for each 256 bytes of the entry and for each policy that it keeps; `TextTooLong` and `BadShadow`
-/// where it can't be thawed; `BadSession` where its text keeps no array.
+/// `Keeper` where the read failed; `FuelSpent` where there is not a tick for each 256 bytes of the entry and for each policy that it keeps;
+/// `TextTooLong` and `BadShadow` where it can't be thawed; `BadSession` where its text keeps no array.
 pub(crate) fn begin_session<F: Files, T: Tables>(
     alloc: Global,
     run: &mut Run<F, T>,
@@ -143,11 +164,11 @@ fn session_text(alloc: Global, m: &Machine) -> Result<LText, Stop>
     }
 }
 
-// Whether an entry has these bytes and this shadow text.
-fn has_texts(e: &Entry, bytes: &[u8], shadow: &[u8]) -> bool
-    ensures { result ≡ spec.is_same (entry_of bytes.now shadow.now) e.now }
+// Whether two entries have the same bytes and the same shadow text.
+fn are_same(bytes: &[u8], shadow: &[u8], held: &[u8], held_shadow: &[u8]) -> bool
+    ensures { result ≡ spec.is_same (entry_of bytes.now shadow.now) (entry_of held.now held_shadow.now) }
 {
-    bytes == e.bytes.as_slice() && shadow == e.shadow.as_slice()
+    bytes == held && shadow == held_shadow
 }
 
 // Whether these bytes and this shadow text are what was found, where nothing counts as empty.
@@ -155,8 +176,8 @@ fn is_held(found: &Option<Entry>, bytes: &[u8], shadow: &[u8]) -> bool
     ensures { result ≡ spec.is_same (entry_of bytes.now shadow.now) (spec.held (option_map lift found.now)) }
 {
     match found {
-        Some(e) => has_texts(e, bytes, shadow),
-        None => bytes.is_empty() && shadow.is_empty(),
+        Some(e) => are_same(bytes, shadow, e.bytes.as_slice(), e.shadow.as_slice()),
+        None => are_same(bytes, shadow, &[], &[]),
     }
 }
 
@@ -169,7 +190,8 @@ fn write_changed<F: Files, T: Tables>(
     bytes: &[u8],
     shadow: &[u8],
 ) -> Result<(), Stop>
-    ensures { (d : Marked) → AreWritten bytes.now shadow.now d → Performs F.Files T.Tables (spec.write_changed name.now (option_map lift found.now) d) run.old result run.new }
+    ensures { (d : Marked) → AreWritten bytes.now shadow.now d
+        → Performs F.Files T.Tables (spec.write_changed name.now (option_map lift found.now) d) run.old result run.new }
 {
     if is_held(found, bytes, shadow) {
         return Ok(());
@@ -196,12 +218,14 @@ fn keep_text<F: Files, T: Tables>(
     write_changed(alloc, run, name, found, bytes, shadow.as_slice())
 }
 
-/// Keeps what `$_SESSION` holds, by a write exactly where bytes or shadow text differ from those that were found; where none were, from empty ones.
+/// Keeps what `$_SESSION` holds, by a write exactly where bytes or shadow text differ from those that were found; where none were, from empty
+/// ones.
 ///
 /// # Errors
 ///
-/// In this order: `NotStorable` where `$_SESSION` is no array, or holds what is neither an integer nor a text; `TextTooLong` where its text would be longer than 16,777,216
-/// bytes; `FuelSpent` where there is not a tick for each 256 bytes of it; `NotStorable` for a policy that can't be kept; `Keeper` where the write failed.
+/// In this order: `NotStorable` where `$_SESSION` is no array, or holds what is neither an integer nor a text; `TextTooLong` where its text would
+/// be longer than 16,777,216 bytes; `FuelSpent` where there is not a tick for each 256 bytes of it; `NotStorable` for a policy that can't be kept;
+/// `Keeper` where the write failed.
 pub(crate) fn end_session<F: Files, T: Tables>(
     alloc: Global,
     run: &mut Run<F, T>,

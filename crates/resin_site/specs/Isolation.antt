@@ -1,41 +1,11 @@
 -- Isolation of sessions (this project): what a request does depends on its own session and on what all share, and it changes no other session.
-use Rattle.std.specs.Prelude.{◌≡◌, ℕ, Bool, true, false, List, codes, nat_eq, Option, Some, None, ⊤}
-use Rattle.std.specs.FinMap.{get}
-use Rattle.std.specs.List.{starts_with}
+use Rattle.std.specs.Prelude.{◌≡◌, ℕ, List, Option}
 use Rattle.resin_request.specs.Under.http.Inputs.{inputs_of}
 use Rattle.resin_request.specs.Under.http.declared.request.Request.{Request}
-use Rattle.resin_request.specs.Sessions.{session_of, session_path}
+use Rattle.resin_request.specs.Under.meaning_forms.Blindness.{AgreeFor, KeepsOthers}
+use Rattle.resin_request.specs.Sessions.{session_of}
 use Rattle.resin_site.specs.Keeping.{Store}
 use Rattle.resin_site.specs.Replies.{Reply, request}
-
--- a path at which sessions are kept
-abbrev pub is_of_session : List ℕ → Bool
-is_of_session path = starts_with nat_eq path (codes ".resin/s=")
-
--- a path is that of another session than this one; of any, where there is none
-abbrev pub IsNot : Option (List ℕ) → List ℕ → Type 0
-IsNot (Some name) path = path ≡ session_path name → ⊥
-IsNot None path = ⊤
-
--- a path at which a session stands that isn't this one
-pub record IsOfOther (own : Option (List ℕ)) (path : List ℕ) : Type 0 where
-  pub of_session : is_of_session path ≡ true
-  pub other : IsNot own path
-
--- two stores agree on this session, if there is one
-abbrev pub AgreeAtOwn : Option (List ℕ) → Store → Store → Type 0
-AgreeAtOwn (Some name) s t = get s.files (session_path name) ≡ get t.files (session_path name)
-AgreeAtOwn None s t = ⊤
-
--- two stores agree on all tables, on all files at which no session is kept, and on this session, if there is one
-pub record AgreeFor (own : Option (List ℕ)) (s t : Store) : Type 0 where
-  pub tables : s.tables ≡ t.tables
-  pub shared : (path : List ℕ) → is_of_session path ≡ false → get s.files path ≡ get t.files path
-  pub own_entry : AgreeAtOwn own s t
-
--- every other session is kept as it was
-abbrev pub KeepsOthers : Option (List ℕ) → Store → Store → Type 0
-KeepsOthers own s s' = (path : List ℕ) → IsOfOther own path → get s'.files path ≡ get s.files path
 
 -- two replies say the same: they end alike, with equal answers, mail and journals, after equal calls
 pub record SayTheSame (r r' : Reply) : Type 0 where
