@@ -1,16 +1,18 @@
 -- Sessions of visitors, as programs over the state and the keepers: what `$_SESSION` holds when a request ends is there in the next one that names
 -- the session (PHP manual, "Sessions"; the names, what is kept, its policies and its charges are this project's).
 use Rattle.std.specs.Prelude.{ℕ, Bool, ◌&&◌, List, [], length, zip, codes}
-use Rattle.std.specs.Prelude.{Option, Some, None, if◌then◌else◌}
+use Rattle.std.specs.Prelude.{Option, Some, None, Result, Err, if◌then◌else◌}
 use Rattle.std.specs.List.{list_all}
 use Rattle.std.specs.Str.{bytes_eq}
 use Rattle.resin_inputs.specs.declared.arrays.InputArrays.{InputArrays}
 use Rattle.resin_inputs.specs.Under.lstr.Texts.{Text as LabelledText, bytes_of}
+use Rattle.resin_inputs.specs.Under.scalar.declared.faults.CallStop.{CallStop}
+use Rattle.resin_inputs.specs.Under.scalar.declared.faults.CallStop.TheVariants.{Fault as CallFault}
 use Rattle.resin_inputs.specs.Under.scalar.declared.faults.ScriptFault.TheVariants.{BadSession, NotStorable}
 use Rattle.resin_inputs.specs.Under.value.declared.key.Key.TheVariants.{Text as TextKey}
 use Rattle.resin_inputs.specs.Under.value.declared.value.Value.{Value}
-use Rattle.resin_inputs.specs.Under.value.declared.value.Value.TheVariants.{Null, Bool as Boolean, Int, Text, Arr, Object}
-use Rattle.resin_inputs.specs.Under.value.Trees.{Tree, null, boolean, integer, text, array, object}
+use Rattle.resin_inputs.specs.Under.value.declared.value.Value.TheVariants.{Arr}
+use Rattle.resin_inputs.specs.Under.value.Trees.{Tree, text}
 use Rattle.resin_inputs.specs.Under.value.Arrays.{Array, EntryList}
 use Rattle.resin_inputs.specs.Under.value.Changes.{lookup, empty}
 use Rattle.resin_session.specs.Reading.{session as session_in}
@@ -60,15 +62,14 @@ begin_session name = read_file (session_path name) >>= λ found. set_found found
 
 -- ---- after it: what `$_SESSION` holds is kept
 
--- integers and texts alone are kept, of an array alone
-abbrev pub entries_kept : Value → Option EntryList
-entries_kept (Arr a) = if list_all (λ e. is_storable e.1) a.entries then Some a.entries else None
-entries_kept v = None
+-- the session text of entries: NotStorable where a value is neither an integer nor a text, else TextTooLong where it is too long
+abbrev pub text_of_entries : EntryList → Result LabelledText CallStop
+text_of_entries es = if list_all (λ e. is_storable e.1) es then too_long (session_text es) else Err (CallFault NotStorable)
 
--- the session text of the entries
-abbrev pub text_of_entries : Option EntryList → Prog LabelledText
-text_of_entries (Some es) = computed (too_long (session_text es))
-text_of_entries None = faulted NotStorable
+-- the session text of a value: an array alone is kept
+abbrev pub text_of_value : Value → Result LabelledText CallStop
+text_of_value (Arr a) = text_of_entries a.entries
+text_of_value v = Err (CallFault NotStorable)
 
 -- what a keeper holds of the entry that was found; where there was none, of the empty one
 abbrev pub held : Option LabelledEntry → Entry
@@ -90,9 +91,9 @@ keep_text name found t = do
   marks ← freeze_text t
   write_changed name found (zip (bytes_of t) marks)
 
--- what `$_SESSION` holds is kept: NotStorable, TextTooLong, the charge, the freezing, and the write come in this order
+-- what `$_SESSION` holds is kept
 abbrev pub end_session : List ℕ → Option LabelledEntry → Prog (Unit {0})
-end_session name found = looked (λ m. entries_kept m.session) >>= text_of_entries >>= keep_text name found
+end_session name found = looked (λ m. text_of_value m.session) >>= computed >>= keep_text name found
 
 -- ---- around the file of the request
 

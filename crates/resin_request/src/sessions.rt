@@ -2,8 +2,8 @@
 ghost use Rattle.std.specs.Prelude.{◌≡◌, IfOk, Some, None};
 ghost use Rattle.std.specs.List.{list_all};
 ghost use Rattle.std.specs.Option.{option_map};
+ghost use Rattle.resin_inputs.specs.Under.scalar.Stops.{GivesOrNoMemory};
 ghost use Rattle.resin_inputs.specs.Under.value.Seen.{tree_of};
-ghost use Rattle.resin_inputs.specs.Under.value.declared.value.Value.{Value as AnyValue};
 ghost use Rattle.resin_interp.specs.Under.base.FileStore.{entry_of};
 ghost use Rattle.resin_interp.specs.Under.eval_nested.Running.{Performs};
 ghost use Rattle.resin_interp.specs.Under.meaning.KeeperCalls.{lifted};
@@ -14,7 +14,7 @@ ghost use Rattle.resin_request.specs.Sessions as spec;
 
 use resin_inputs::InputArrays;
 use resin_inputs::under::lstr::LText;
-use resin_inputs::under::value::{Arr, Key, KeyText, ScriptFault, Value};
+use resin_inputs::under::value::{Arr, CallStop, Key, KeyText, ScriptFault, Value};
 use resin_interp::under::base::{Entry, Files, Tables};
 use resin_interp::{
     Machine, Run, Stop, charge_bytes, freeze_text, session, set_session, thaw_entry,
@@ -143,24 +143,24 @@ pub(crate) fn begin_session<F: Files, T: Tables>(
 }
 
 // The session text of an array.
-fn text_of_array(alloc: Global, m: &Machine, a: &Arr) -> Result<LText, Stop>
-    ensures { Runs (spec.text_of_entries (spec.entries_kept (AnyValue.Arr a.now))) m.now result m.now }
+fn text_of_array(alloc: Global, a: &Arr) -> Result<LText, CallStop>
+    ensures { GivesOrNoMemory result (spec.text_of_entries a.now.entries) }
 {
     match write_session(alloc, a) {
         Ok(text) => Ok(text),
-        Err(SessionFault::NotStorable) => Err(m.fault(ScriptFault::NotStorable)),
-        Err(SessionFault::TooLong) => Err(m.fault(ScriptFault::TextTooLong)),
-        Err(SessionFault::Memory) => Err(Stop::Memory),
+        Err(SessionFault::NotStorable) => Err(CallStop::Fault(ScriptFault::NotStorable)),
+        Err(SessionFault::TooLong) => Err(CallStop::Fault(ScriptFault::TextTooLong)),
+        Err(SessionFault::Memory) => Err(CallStop::Memory),
     }
 }
 
-// The session text of `$_SESSION`.
-fn session_text(alloc: Global, m: &Machine) -> Result<LText, Stop>
-    ensures { Runs (spec.text_of_entries (spec.entries_kept m.now.session)) m.now result m.now }
+// The session text of a value.
+fn text_of_value(alloc: Global, v: &Value) -> Result<LText, CallStop>
+    ensures { GivesOrNoMemory result (spec.text_of_value v.now) }
 {
-    match session(m) {
-        Value::Arr(array) => text_of_array(alloc, m, array),
-        _ => Err(m.fault(ScriptFault::NotStorable)),
+    match v {
+        Value::Arr(array) => text_of_array(alloc, array),
+        _ => Err(CallStop::Fault(ScriptFault::NotStorable)),
     }
 }
 
@@ -213,7 +213,7 @@ fn keep_text<F: Files, T: Tables>(
     charge_bytes(&mut run.machine, text.len() as u64)?;
     let marks = freeze_text(alloc, &run.machine, text)?;
     let bytes = text.bytes();
-    prove!(marks.len() == bytes.len() as u64);
+    let _len = marks.len();
     let shadow = encode(alloc, &marks)?;
     write_changed(alloc, run, name, found, bytes, shadow.as_slice())
 }
@@ -234,6 +234,7 @@ pub(crate) fn end_session<F: Files, T: Tables>(
 ) -> Result<(), Stop>
     ensures { Performs F.Files T.Tables (spec.end_session name.now (option_map lift found.now)) run.old result run.new }
 {
-    let text = session_text(alloc, &run.machine)?;
+    let kept = text_of_value(alloc, session(&run.machine));
+    let text = run.machine.settle(kept)?;
     keep_text(alloc, run, name, found, &text)
 }
