@@ -2,6 +2,6 @@
 ghost use Rattle.resin_meaning_forms.specs.Blindness.{ScriptsAreBlind};
 
 /// Whatever a script does, it sees and changes no session of another visitor.
-pub fn session_laws()
+pub fn blindness_law()
     ensures { ScriptsAreBlind }
 {}

@@ -9,5 +9,5 @@ pub mod under;
 
 pub use callee::{Callee, ChannelFunction, StateFunction};
 pub use course::{Course, Flow};
-pub use laws::session_laws;
+pub use laws::blindness_law;
 pub use outgoing::Outgoing;

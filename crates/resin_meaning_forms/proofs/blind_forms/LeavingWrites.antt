@@ -1,10 +1,10 @@
 -- The programs of LeavingWrites are blind to the sessions of others.
 use Rattle.std.specs.Prelude.{Option}
 use Rattle.std.specs.Prelude.{ℕ, List, [], ◌∷◌, length, unwrap_or, Result, Ok, Err}
-use Rattle.resin_machine.specs.Under.lstr.Texts.{Text, policies_in_order, first_run}
-use Rattle.resin_machine.specs.Under.journal.declared.channel.Channel.{Channel}
-use Rattle.resin_machine.specs.declared.stop.Stop.TheVariants.{Thrown}
-use Rattle.resin_machine.specs.Leaving.{draw, pass, deny, deny_filter}
+use Rattle.resin_builtin.specs.Under.lstr.Texts.{Text, policies_in_order, first_run}
+use Rattle.resin_target.specs.Under.journal.declared.channel.Channel.{Channel}
+use Rattle.resin_target.specs.Under.machine.declared.stop.Stop.TheVariants.{Thrown}
+use Rattle.resin_target.specs.Under.machine.Leaving.{draw, pass, deny, deny_filter}
 use Rattle.resin_meaning.specs.Programs.{Prog, give, stop, ◌>>=◌, tried, quietly, act}
 use Rattle.resin_meaning.specs.LeavingWrites.{judged, ask_policies, filtered, ask_filters, leaving_write}
 use Rattle.resin_meaning_forms.specs.Blindness.{IsBlind}
