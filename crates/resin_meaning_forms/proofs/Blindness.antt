@@ -12,7 +12,6 @@ use Rattle.resin_meaning.specs.Under.base.Contents.{byte_order}
 use Rattle.resin_meaning.specs.Under.base.Causes.{is_listed, last_count}
 use Rattle.resin_meaning.specs.Under.base.TableStore.{TableStore}
 use Rattle.resin_meaning.specs.Under.store.Entries.{Marked, LabelledEntry, Good, Second}
-use Rattle.resin_meaning.specs.Under.store.Files.{LabelledFiles}
 use Rattle.resin_builtin.specs.Under.bytes.Paths.{is_lawful_path, has_segments}
 use Rattle.resin_builtin.specs.Under.scalar.declared.faults.ScriptFault.TheVariants.{FuelSpent}
 use Rattle.resin_target.specs.Under.machine.declared.stop.Stop.{Stop}
@@ -24,7 +23,7 @@ use Rattle.resin_target.specs.Under.tree.declared.statement.Stmt.{Stmt}
 use Rattle.resin_meaning.specs.Programs.{Store, Whole, KeeperCall, Out, Prog, ended, give, stop, then_by, on_value, ◌>>=◌, caught, tried, act, within, called, keep, on_files, on_tables, file_call, table_call}
 use Rattle.resin_meaning.specs.KeeperCalls.{read_file, write_file, remove_file, file_exists}
 use Rattle.resin_meaning_forms.specs.Parts.{Evals}
-use Rattle.resin_meaning_forms.specs.Blindness.{AgreeFor, KeepsOthers, Alike, IsBlind}
+use Rattle.resin_meaning_forms.specs.Blindness.{AgreeFor, Alike, IsBlind}
 use Rattle.resin_meaning_forms.specs.Sessions.{session_path, is_of_session, is_of_other}
 use Rattle.resin_meaning_forms.specs.Statements.{by_ticks}
 
@@ -133,7 +132,7 @@ blind_keep {own = own} {A = A} call change l = record {
     keeps true false at path h = l.keeps at.store path h
 
     alike : (b f : Bool) (at at' : Whole) → at.state ≡ at'.state → at.made ≡ at'.made → AgreeFor own at.store at'.store → Alike own (kept_out call change b f at) (kept_out call change b f at')
-    alike false f at at' st mk ag = record { end = ap (λ m. Err (Fault FuelSpent m.line)) st; state = st; made = mk; calls = refl; stores = ag }
+    alike false f at at' st mk ag = record { end = ap (λ (m : State). let r : Result A Stop = Err (Fault FuelSpent m.line) in r) st; state = st; made = mk; calls = refl; stores = ag }
     alike true true at at' st mk ag = record { end = refl; state = st; made = ap (λ n. n + 1) mk; calls = refl; stores = ag }
     alike true false at at' st mk ag = record { end = ap Ok (l.answer at.store at'.store ag); state = st; made = ap (λ n. n + 1) mk; calls = refl; stores = l.after at.store at'.store ag }
 

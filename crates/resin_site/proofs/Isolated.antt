@@ -5,6 +5,7 @@ use Rattle.resin_request.specs.Under.http.declared.request.Request.{Request}
 use Rattle.resin_request.specs.Under.journal.Lines.{log_of}
 use Rattle.resin_request.specs.Under.meaning_forms.Blindness.{AgreeFor, IsBlind, Alike}
 use Rattle.resin_request.specs.Paths.{path_of}
+use Rattle.resin_request.specs.Requests.{request_program}
 use Rattle.resin_request.specs.Sessions.{session_of}
 use Rattle.resin_request.proofs.Blind.{request_blind}
 use Rattle.resin_site.specs.Isolation.{SayTheSame, Isolates, IsIsolated}
@@ -18,7 +19,7 @@ is_isolated fuel made number r K s t ag =
     let own = session_of (inputs_of r) in
     let path = path_of r.target in
     let head = is_head r.method in
-    let b : IsBlind own _ = request_blind path (inputs_of r) in
+    let b : IsBlind own (request_program path (inputs_of r)) = request_blind path (inputs_of r) in
     let a : Alike own (steps fuel K s made number r) (steps fuel K t made number r) = b.alike K (begun fuel s made number) (begun fuel t made number) refl refl ag in
     record {
       same = record {
