@@ -12,7 +12,8 @@ use Rattle.resin_eval_writes.specs.Under.store.Entries.{Marked, LabelledEntry, G
 use Rattle.resin_eval_writes.proofs.meaning_lemmas.OneCall.{kept_entry}
 use Rattle.resin_eval_writes.specs.Under.base.declared.calls.Calls.{Calls}
 use Rattle.resin_eval_writes.specs.Under.base.declared.files.Entry.{Entry}
-use Rattle.resin_eval_writes.specs.Under.lstr.Texts.{Text as LabelledText, LONGEST, bytes_of}
+use Rattle.resin_eval_writes.specs.Under.lstr.declared.limits.TheConstants.{LONGEST}
+use Rattle.resin_eval_writes.specs.Under.lstr.Texts.{Text as LabelledText, bytes_of}
 use Rattle.resin_eval_writes.specs.Under.scalar.declared.faults.ScriptFault.{ScriptFault}
 use Rattle.resin_eval_writes.specs.Under.scalar.declared.faults.ScriptFault.TheVariants.{BadShadow, TextTooLong, NotStorable}
 use Rattle.resin_eval_writes.specs.Under.machine.declared.stop.Stop.{Stop}

@@ -17,7 +17,7 @@ use resin_eval_writes::under::eval_nested::nested::{Evaluator, Nested, Outcome};
 use resin_eval_writes::under::eval_nested::run::Run;
 use resin_eval_writes::under::heap::PreludeClass;
 use resin_eval_writes::under::journal::Channel;
-use resin_eval_writes::under::lstr::{LText, LONGEST};
+use resin_eval_writes::under::lstr::{LONGEST, LText};
 use resin_eval_writes::under::machine::{Machine, Stop};
 use resin_eval_writes::under::scalar::ScriptFault;
 use resin_eval_writes::under::step_parts::reads::number;

@@ -4,7 +4,7 @@ use Rattle.std.specs.declared.alloc.Global.{Global}
 use denote.Ref.{MutBor}
 use Rattle.resin_step_objects.specs.Under.base.declared.files.Files as Files
 use Rattle.resin_step_objects.specs.Under.base.declared.tables.Tables as Tables
-use Rattle.resin_step_objects.specs.Under.lstr.Texts.{LONGEST}
+use Rattle.resin_step_objects.specs.Under.lstr.declared.limits.TheConstants.{LONGEST}
 use Rattle.resin_step_objects.specs.Under.machine.declared.stop.Stop.{Stop}
 use Rattle.resin_step_objects.specs.Under.meaning.Runs.{World, Does}
 use Rattle.resin_step_objects.specs.Under.meaning_forms.Parts.{Evals}

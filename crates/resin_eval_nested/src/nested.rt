@@ -5,7 +5,7 @@
 ghost use Rattle.resin_step_objects.specs.Under.meaning_forms.Forms as form;
 ghost use Rattle.resin_eval_nested.specs.Nested.{Nests, means};
 ghost use Rattle.resin_eval_nested.specs.Running.{Performs};
-ghost use Rattle.resin_step_objects.specs.Under.lstr.Texts.{LONGEST};
+ghost use Rattle.resin_step_objects.specs.Under.lstr.declared.limits.TheConstants.{LONGEST};
 ghost use Rattle.resin_step_objects.specs.Under.meaning_forms.Sources.{source};
 ghost use Rattle.std.specs.Prelude.{OnOk, ◌<◌, ◌≤◌, length};
 

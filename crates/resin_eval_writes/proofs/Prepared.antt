@@ -3,7 +3,8 @@ use Rattle.std.proofs.Common.{◌≡◌, ◌≢◌, ℕ, List, [], ◌++◌, len
 use Rattle.std.specs.FinMap.{empty}
 use Rattle.resin_eval_nested.specs.Under.base.declared.calls.Calls.{Calls}
 use Rattle.resin_eval_nested.specs.Under.bytes.declared.header.Header.{Header as HeaderField}
-use Rattle.resin_eval_nested.specs.Under.lstr.Texts.{Text, LONGEST, bytes_of, policies_in_order}
+use Rattle.resin_eval_nested.specs.Under.lstr.declared.limits.TheConstants.{LONGEST}
+use Rattle.resin_eval_nested.specs.Under.lstr.Texts.{Text, bytes_of, policies_in_order}
 use Rattle.resin_eval_nested.specs.Under.journal.Access.{is_among}
 use Rattle.resin_eval_nested.specs.Under.scalar.declared.faults.CallStop.TheVariants.{Fault as CallFault}
 use Rattle.resin_eval_nested.specs.Under.scalar.declared.faults.ScriptFault.TheVariants.{TextTooLong, FuelSpent}

@@ -4,7 +4,8 @@ use Rattle.std.specs.Prelude.{◌&&◌, nat_le, is_none}
 use Rattle.std.specs.List.{list_all}
 use Rattle.std.proofs.lemmas.Bool.Decides.{nat_tests}
 use Rattle.resin_value.specs.Under.label.Sets.{NumberSet, empty as no_labels}
-use Rattle.resin_value.specs.Under.lstr.Texts.{LONGEST, bytes_of, carrying}
+use Rattle.resin_value.specs.Under.lstr.declared.limits.TheConstants.{LONGEST}
+use Rattle.resin_value.specs.Under.lstr.Texts.{bytes_of, carrying}
 use Rattle.resin_value.specs.declared.key.Key.{Key}
 use Rattle.resin_value.specs.Trees.{Tree, Row, null, boolean, integer, text, no_entry, entry}
 use Rattle.resin_value.specs.Arrays.{EntryList, Array, row_of, entries_of, entries_of-row_of}

@@ -4,7 +4,7 @@ use Rattle.std.specs.Prelude.{◌&&◌}
 use Rattle.std.specs.List.{list_all, IsDistinct, AllByRecursion}
 use Rattle.std.specs.Map.{keys_of}
 use Rattle.std.specs.Str.{bytes_eq}
-use Rattle.resin_value.specs.Under.lstr.Texts.{LONGEST}
+use Rattle.resin_value.specs.Under.lstr.declared.limits.TheConstants.{LONGEST}
 use Rattle.resin_value.specs.declared.key.Key.{Key}
 use Rattle.resin_value.specs.declared.key.Key.TheVariants.{Text as TextKey}
 use Rattle.resin_value.specs.declared.value.Value.{Value}

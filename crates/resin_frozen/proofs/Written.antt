@@ -5,7 +5,8 @@ use Rattle.std.specs.Fmt.{signed_decimal}
 use Rattle.std.specs.List.{list_all}
 use Rattle.std.proofs.lemmas.Bool.Decides.{nat_tests}
 use Rattle.resin_value.specs.Under.label.Sets.{empty as no_labels}
-use Rattle.resin_value.specs.Under.lstr.Texts.{Text as LabelledText, LONGEST, bytes_of, carrying}
+use Rattle.resin_value.specs.Under.lstr.declared.limits.TheConstants.{LONGEST}
+use Rattle.resin_value.specs.Under.lstr.Texts.{Text as LabelledText, bytes_of, carrying}
 use Rattle.resin_value.specs.declared.key.Key.{Key}
 use Rattle.resin_value.specs.Trees.{Tree, Row, null, boolean, integer, text, array, object, no_entry, entry}
 use Rattle.resin_value.specs.Arrays.{EntryList, Array, row_of, entries_of, entries_of-row_of}

@@ -5,7 +5,8 @@ use Rattle.std.specs.List.{list_all, IsDistinct}
 use Rattle.std.specs.Str.{bytes_eq}
 use Rattle.std.specs.Map.{lookup as at_name, keys_of}
 use Rattle.resin_value.specs.Under.label.Sets.{empty as no_labels}
-use Rattle.resin_value.specs.Under.lstr.Texts.{LONGEST, bytes_of, carrying}
+use Rattle.resin_value.specs.Under.lstr.declared.limits.TheConstants.{LONGEST}
+use Rattle.resin_value.specs.Under.lstr.Texts.{bytes_of, carrying}
 use Rattle.resin_scan.specs.Bytes.{begins_name, is_name_byte}
 use Rattle.resin_value.specs.declared.key.Key.{Key}
 use Rattle.resin_value.specs.declared.key.Key.TheVariants.{Int, Text as TextKey}

@@ -6,7 +6,8 @@ use Rattle.std.specs.List.{position_or_len, before_first, after_first, starts_wi
 use Rattle.std.specs.Cmp.Lexicographic.{pointwise}
 use Rattle.resin_value.specs.Under.bytes.Numbers.{decimal_value, is_negative}
 use Rattle.resin_value.specs.Under.label.Sets.{empty as no_labels}
-use Rattle.resin_value.specs.Under.lstr.Texts.{Text as LabelledText, LONGEST, carrying}
+use Rattle.resin_value.specs.Under.lstr.declared.limits.TheConstants.{LONGEST}
+use Rattle.resin_value.specs.Under.lstr.Texts.{Text as LabelledText, carrying}
 use Rattle.resin_value.specs.declared.key.Key.{Key}
 use Rattle.resin_value.specs.declared.key.Key.TheVariants.{Int, Text}
 use Rattle.resin_value.specs.Keys.{is_lawful}

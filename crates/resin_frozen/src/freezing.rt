@@ -3,7 +3,8 @@ ghost use Rattle.std.specs.Prelude.{◌≡◌, ◌≤◌, ◌++◌, OnOk, IfOk, 
 ghost use Rattle.std.specs.List.{list_all};
 ghost use Rattle.std.specs.Map.{lookup};
 ghost use Rattle.std.specs.Str.{bytes_eq};
-ghost use Rattle.resin_value.specs.Under.lstr.Texts.{LONGEST, bytes_of};
+ghost use Rattle.resin_value.specs.Under.lstr.declared.limits.TheConstants.{LONGEST};
+ghost use Rattle.resin_value.specs.Under.lstr.Texts.{bytes_of};
 ghost use Rattle.resin_value.specs.Arrays.{row_of};
 ghost use Rattle.resin_value.specs.Seen.{tree_of};
 ghost use Rattle.resin_frozen.specs.Texts as texts;

@@ -3,7 +3,8 @@ use Rattle.std.proofs.Common.{◌≡◌, ℕ, zero, suc, ◌+◌, ◌-◌, ◌<�
 use Rattle.std.proofs.lemmas.Result.{err_from_is_err_and}
 use Rattle.std.proofs.lemmas.List.{drop_all}
 use Rattle.resin_eval_calls.proofs.meaning_lemmas.Composition.{front}
-use Rattle.resin_eval_calls.specs.Under.lstr.Texts.{Text, LONGEST}
+use Rattle.resin_eval_calls.specs.Under.lstr.declared.limits.TheConstants.{LONGEST}
+use Rattle.resin_eval_calls.specs.Under.lstr.Texts.{Text}
 use Rattle.resin_eval_calls.specs.Under.lstr.Faults.{GivesText}
 use Rattle.resin_eval_calls.specs.Under.lstr.declared.text.TextFault.{TextFault}
 use Rattle.resin_eval_calls.specs.Under.lstr.declared.text.TextFault.TheVariants.{TooLong, Memory}

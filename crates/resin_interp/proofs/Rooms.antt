@@ -29,7 +29,7 @@ use Rattle.resin_eval_calls.specs.Under.meaning_forms.Parts.{Evals, ◌>>◌}
 use Rattle.resin_eval_calls.specs.Under.meaning_forms.Expressions.{expr_form, soft_form}
 use Rattle.resin_eval_calls.specs.Under.meaning_forms.Programs.{evals, ticked_form}
 use Rattle.resin_eval_calls.specs.Under.meaning_forms.Sources.{source}
-use Rattle.resin_eval_calls.specs.Under.lstr.Texts.{LONGEST}
+use Rattle.resin_eval_calls.specs.Under.lstr.declared.limits.TheConstants.{LONGEST}
 use Rattle.resin_eval_calls.specs.Under.eval_nested.Nested.{Ends}
 use Rattle.resin_eval_calls.specs.Under.eval_nested.declared.nested.Nested.{Nested}
 use Rattle.resin_eval_calls.specs.Under.eval_nested.declared.nested.Nested.TheVariants.{Value as ForValue, Asked, Statement, Source}

@@ -1,6 +1,6 @@
 //! Source texts: the programs that are read of them.
 ghost use Rattle.std.specs.Prelude.{◌≡◌, ◌≤◌, length};
-ghost use Rattle.resin_eval_calls.specs.Under.lstr.Texts.{LONGEST};
+ghost use Rattle.resin_eval_calls.specs.Under.lstr.declared.limits.TheConstants.{LONGEST};
 ghost use Rattle.resin_eval_calls.specs.Under.meaning.Runs.{Does, World};
 ghost use Rattle.resin_eval_calls.specs.Under.meaning_forms.Sources.{program_of};
 ghost use Rattle.resin_lex.specs.Lines.{line_of};

@@ -10,7 +10,8 @@ use Rattle.std.proofs.Math.Seq.{split_at}
 use Rattle.resin_label.specs.Sets.{NumberSet, numbers, same, IsRising}
 use Rattle.resin_label.specs.Kept.{of_rising}
 use Rattle.resin_label.proofs.Members.{numbers-of_rising}
-use Rattle.resin_lstr.specs.Texts.{Text, LONGEST, bytes_of, sets_of}
+use Rattle.resin_lstr.specs.declared.limits.TheConstants.{LONGEST}
+use Rattle.resin_lstr.specs.Texts.{Text, bytes_of, sets_of}
 use Rattle.resin_scan.specs.Bytes.{begins_name, is_name_byte}
 use Rattle.resin_scan.specs.Words.{IsName}
 use Rattle.resin_journal.specs.declared.channel.Channel.{Channel}

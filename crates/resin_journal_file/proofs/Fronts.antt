@@ -1,7 +1,8 @@
 -- What is read from a line is an item that a file can tell, and the line is that item's.
 use Rattle.std.proofs.Common.{◌≡◌, ℕ, ◌^◌, ◌<◌, ◌≤◌, Bool, true, false, cond, List, [], ◌∷◌, ◌++◌, length, Option, Some, None, decimal, codes, refl, sym, ap, subst, ◌∙◌, arith, append_assoc}
 use Rattle.std.specs.List.{flat_map}
-use Rattle.resin_lstr.specs.Texts.{LONGEST, bytes_of, sets_of}
+use Rattle.resin_lstr.specs.declared.limits.TheConstants.{LONGEST}
+use Rattle.resin_lstr.specs.Texts.{bytes_of, sets_of}
 use Rattle.resin_scan.specs.Words.{IsName}
 use Rattle.resin_journal.specs.declared.channel.Channel.{Channel}
 use Rattle.resin_journal.specs.declared.event.Event.TheVariants.{Passed, Sent, Denied, FilterDenied}

@@ -4,7 +4,8 @@ use Rattle.std.specs.Prelude.{◌&&◌, nat_eq, nat_lt}
 use Rattle.std.specs.List.{flat_map, list_all, zip}
 use Rattle.std.proofs.lemmas.Bool.Decides.{nat_tests}
 use Rattle.resin_label.specs.Sets.{NumberSet, same}
-use Rattle.resin_lstr.specs.Texts.{Text, LONGEST, bytes_of, sets_of}
+use Rattle.resin_lstr.specs.declared.limits.TheConstants.{LONGEST}
+use Rattle.resin_lstr.specs.Texts.{Text, bytes_of, sets_of}
 use Rattle.resin_scan.specs.Words.{IsName}
 use Rattle.resin_scan.proofs.Runs.{take_front}
 use Rattle.resin_journal.specs.declared.channel.Channel.{Channel}

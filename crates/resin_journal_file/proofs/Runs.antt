@@ -6,7 +6,7 @@ use Rattle.std.proofs.lemmas.Bool.Decides.{nat_tests}
 use Rattle.resin_label.specs.Sets.{NumberSet, numbers, same, IsRising}
 use Rattle.resin_label.specs.Kept.{of_rising}
 use Rattle.resin_label.proofs.Members.{numbers-of_rising, rising, same_numbers, same-decides}
-use Rattle.resin_lstr.specs.Texts.{LONGEST}
+use Rattle.resin_lstr.specs.declared.limits.TheConstants.{LONGEST}
 use Rattle.resin_journal_file.specs.Files.{with_place, runs_of, run_line}
 use Rattle.resin_journal_file.specs.Limits.{Each, IsObject}
 use Rattle.resin_journal_file.specs.Reading.{and_then, fields_of, number, LARGEST_OBJECT, objects, is_rising, run_of, RunRead, runs, total, differs, is_coalesced, sets}

@@ -2,7 +2,8 @@
 -- names.
 use Rattle.std.specs.Prelude.{◌≡◌, ℕ, ◌<◌, ◌≤◌, ◌^◌, List, [], ◌∷◌, length}
 use Rattle.resin_label.specs.Sets.{numbers}
-use Rattle.resin_lstr.specs.Texts.{Text, LONGEST, sets_of}
+use Rattle.resin_lstr.specs.declared.limits.TheConstants.{LONGEST}
+use Rattle.resin_lstr.specs.Texts.{Text, sets_of}
 use Rattle.resin_scan.specs.Words.{IsName}
 use Rattle.resin_journal.specs.declared.event.Event.{Event}
 use Rattle.resin_journal.specs.declared.event.Event.TheVariants.{Passed, Sent, Denied, FilterDenied}

@@ -5,7 +5,8 @@ use Rattle.std.specs.Cmp.Lexicographic.{pointwise}
 use Rattle.resin_bytes.specs.Numbers.{decimal_value}
 use Rattle.resin_label.specs.Sets.{NumberSet}
 use Rattle.resin_label.specs.Kept.{of_rising}
-use Rattle.resin_lstr.specs.Texts.{Text, LONGEST}
+use Rattle.resin_lstr.specs.declared.limits.TheConstants.{LONGEST}
+use Rattle.resin_lstr.specs.Texts.{Text}
 use Rattle.resin_scan.specs.Bytes.{begins_name, is_name_byte}
 use Rattle.resin_journal.specs.declared.channel.Channel.{Channel}
 use Rattle.resin_journal.specs.declared.channel.Channel.TheVariants.{Http, Header, Email, File, Sql, Code, Input, Func}

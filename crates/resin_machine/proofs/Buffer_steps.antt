@@ -1,7 +1,8 @@
 -- Steps on output buffers.
 use Rattle.std.proofs.Common.{◌≡◌, ℕ, ◌≤◌, ◌<◌, List, [], ◌∷◌, ◌++◌, length, Bool, true, false, cond, nat_le, Some, None, Result, Ok, Err, refl, sym, ap, subst, ◌∙◌, arith}
 use Rattle.std.proofs.lemmas.Bool.Decides.{nat_tests}
-use Rattle.resin_heap.specs.Under.lstr.Texts.{Text, LONGEST}
+use Rattle.resin_heap.specs.Under.lstr.declared.limits.TheConstants.{LONGEST}
+use Rattle.resin_heap.specs.Under.lstr.Texts.{Text}
 use Rattle.resin_heap.specs.Under.lstr.declared.text.TextFault.{TextFault}
 use Rattle.resin_heap.specs.Under.lstr.declared.text.TextFault.TheVariants.{TooLong, Memory as NoMemory}
 use Rattle.resin_stage.specs.Buffered.{Joins}

@@ -3,7 +3,8 @@ use Rattle.std.proofs.Common.{◌≡◌, ℕ, zero, suc, ◌+◌, ◌<◌, ◌�
 use Rattle.std.specs.Prelude.{not, ◌||◌, ◌&&◌, Ok, Err}
 use Rattle.std.specs.List.{list_any}
 use Rattle.resin_value.specs.Under.bytes.declared.header.Header.{Header}
-use Rattle.resin_value.specs.Under.lstr.Texts.{Text, LONGEST}
+use Rattle.resin_value.specs.Under.lstr.declared.limits.TheConstants.{LONGEST}
+use Rattle.resin_value.specs.Under.lstr.Texts.{Text}
 use Rattle.resin_value.specs.Under.lstr.Faults.{GivesText}
 use Rattle.resin_value.specs.Under.lstr.declared.text.TextFault.{TextFault}
 use Rattle.resin_value.specs.Under.lstr.declared.text.TextFault.TheVariants.{TooLong, Memory}

@@ -3,7 +3,8 @@ use Rattle.std.specs.Prelude.{◌≡◌, ℕ, Bool, ◌==◌, ◌&&◌, ◌||◌
 use Rattle.std.specs.Cmp.Lexicographic.{pointwise}
 use Rattle.std.specs.Str.{str_to_ascii_lowercase}
 use Rattle.resin_value.specs.Under.bytes.declared.header.Header.{Header}
-use Rattle.resin_value.specs.Under.lstr.Texts.{Text, LONGEST}
+use Rattle.resin_value.specs.Under.lstr.declared.limits.TheConstants.{LONGEST}
+use Rattle.resin_value.specs.Under.lstr.Texts.{Text}
 use Rattle.resin_value.specs.Under.lstr.declared.text.TextFault.{TextFault}
 use Rattle.resin_value.specs.Under.lstr.declared.text.TextFault.TheVariants.{TooLong, Memory}
 

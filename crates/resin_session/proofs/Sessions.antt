@@ -3,7 +3,8 @@ use Rattle.std.proofs.Common.{◌≡◌, ℕ, zero, suc, ◌^◌, ◌<◌, ◌�
 use Rattle.std.specs.Prelude.{option_map, is_none, Ok, Err}
 use Rattle.std.specs.List.{AllByRecursion}
 use Rattle.std.proofs.lemmas.List.Sums.{fold_push}
-use Rattle.resin_value.specs.Under.lstr.Texts.{Text, LONGEST}
+use Rattle.resin_value.specs.Under.lstr.declared.limits.TheConstants.{LONGEST}
+use Rattle.resin_value.specs.Under.lstr.Texts.{Text}
 use Rattle.resin_value.specs.declared.key.Key.{Key}
 use Rattle.resin_value.specs.Keys.{key_eq}
 use Rattle.resin_value.specs.Trees.{Tree, null, boolean, integer, text, array, object}

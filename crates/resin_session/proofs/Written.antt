@@ -5,7 +5,8 @@ use Rattle.std.specs.List.{list_all, AllByRecursion}
 use Rattle.std.proofs.lemmas.List.{flat_map_more, take_all}
 use Rattle.std.proofs.lemmas.List.Folds.{length-flat_map-take}
 use Rattle.resin_value.specs.Under.label.Sets.{empty as no_labels}
-use Rattle.resin_value.specs.Under.lstr.Texts.{Text, LONGEST, carrying}
+use Rattle.resin_value.specs.Under.lstr.declared.limits.TheConstants.{LONGEST}
+use Rattle.resin_value.specs.Under.lstr.Texts.{Text, carrying}
 use Rattle.resin_value.specs.Under.lstr.Faults.{GivesText}
 use Rattle.resin_value.specs.Under.lstr.declared.text.TextFault.{TextFault}
 use Rattle.resin_value.specs.Under.lstr.declared.text.TextFault.TheVariants as l

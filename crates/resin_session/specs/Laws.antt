@@ -1,6 +1,7 @@
 -- Laws of session texts. No labelled text is longer than the longest one, so the premise holds of each.
 use Rattle.std.specs.Prelude.{◌≡◌, ◌↔◌, ◌≤◌, length, Some}
-use Rattle.resin_value.specs.Under.lstr.Texts.{Text, LONGEST}
+use Rattle.resin_value.specs.Under.lstr.declared.limits.TheConstants.{LONGEST}
+use Rattle.resin_value.specs.Under.lstr.Texts.{Text}
 use Rattle.resin_value.specs.Arrays.{Array}
 use Rattle.resin_session.specs.Sessions.{IsSessionOf}
 use Rattle.resin_session.specs.Reading.{session}

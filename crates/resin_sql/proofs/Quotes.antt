@@ -5,7 +5,8 @@ use Rattle.std.proofs.lemmas.List.{take_all, drop_all, append-nil}
 use Rattle.std.specs.Prelude.{◌==◌, ◌&&◌}
 use Rattle.resin_form.proofs.Cases.{if_true, if_false}
 use Rattle.resin_label.specs.Sets.{NumberSet, empty, union}
-use Rattle.resin_lstr.specs.Texts.{Text, LONGEST, bytes_of, sets_of, carrying}
+use Rattle.resin_lstr.specs.declared.limits.TheConstants.{LONGEST}
+use Rattle.resin_lstr.specs.Texts.{Text, bytes_of, sets_of, carrying}
 use Rattle.resin_sql.specs.Labels.{begins_doubled, unquoted}
 
 -- the byte at a place, with its set

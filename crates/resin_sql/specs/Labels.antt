@@ -1,7 +1,8 @@
 -- What the literals of a statement carry of the text that it was read from.
 use Rattle.std.specs.Prelude.{◌≡◌, ℕ, ◌<◌, ◌≤◌, Bool, true, false, ◌&&◌, ◌==◌, List, [], ◌∷◌, ◌++◌, length, slice_range, Result, Ok, Err, if◌then◌else◌}
 use Rattle.resin_label.specs.Sets.{union}
-use Rattle.resin_lstr.specs.Texts.{Text, LONGEST}
+use Rattle.resin_lstr.specs.declared.limits.TheConstants.{LONGEST}
+use Rattle.resin_lstr.specs.Texts.{Text}
 use Rattle.resin_lstr.specs.declared.text.TextFault.{TextFault}
 use Rattle.resin_lstr.specs.declared.text.TextFault.TheVariants.{TooLong, Memory}
 use Rattle.resin_sql_words.specs.declared.literals.Literal.{Literal}

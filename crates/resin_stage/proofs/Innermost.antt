@@ -1,7 +1,8 @@
 -- The innermost buffer is the last one.
 use Rattle.std.proofs.Common.{◌≡◌, ℕ, zero, suc, ◌+◌, ◌-◌, ◌≤◌, ◌<◌, List, [], ◌∷◌, ◌++◌, length, get_or, Result, Ok, Err, refl, sym, ap, subst, ◌∙◌, arith}
 use Rattle.std.proofs.Math.ListN.{set, length-set}
-use Rattle.resin_scope.specs.Under.lstr.Texts.{Text, LONGEST}
+use Rattle.resin_scope.specs.Under.lstr.declared.limits.TheConstants.{LONGEST}
+use Rattle.resin_scope.specs.Under.lstr.Texts.{Text}
 use Rattle.resin_scope.specs.Under.lstr.declared.text.TextFault.{TextFault}
 use Rattle.resin_scope.specs.Under.lstr.declared.text.TextFault.TheVariants.{TooLong, Memory}
 use Rattle.resin_scope.specs.Pages.{innermost, appended_to_innermost}

@@ -1,6 +1,7 @@
 -- What putting a text into a buffer leaves.
 use Rattle.std.specs.Prelude.{◌≡◌, ◌<◌, ◌≤◌, List, ◌++◌, length, Result, Ok, Err, ⊤}
-use Rattle.resin_scope.specs.Under.lstr.Texts.{Text, LONGEST}
+use Rattle.resin_scope.specs.Under.lstr.declared.limits.TheConstants.{LONGEST}
+use Rattle.resin_scope.specs.Under.lstr.Texts.{Text}
 use Rattle.resin_scope.specs.Under.lstr.declared.text.TextFault.{TextFault}
 use Rattle.resin_scope.specs.Under.lstr.declared.text.TextFault.TheVariants.{TooLong, Memory}
 use Rattle.resin_scope.specs.Pages.{innermost, appended_to_innermost}

@@ -3,7 +3,8 @@ use Rattle.std.proofs.Common.{◌≡◌, ℕ, ◌-◌, ◌/◌, ◌≤◌, List,
 use Rattle.std.specs.Prelude.{nat_lt, nat_le, sum_by, unwrap_or}
 use Rattle.std.specs.List.{slice_get}
 use Rattle.resin_step_parts.specs.Under.label.Sets.{NumberSet}
-use Rattle.resin_step_parts.specs.Under.lstr.Texts.{Text as LabelledText, LONGEST}
+use Rattle.resin_step_parts.specs.Under.lstr.declared.limits.TheConstants.{LONGEST}
+use Rattle.resin_step_parts.specs.Under.lstr.Texts.{Text as LabelledText}
 use Rattle.resin_step_parts.specs.Under.scalar.declared.faults.CallStop.{CallStop}
 use Rattle.resin_step_parts.specs.Under.scalar.declared.faults.CallStop.TheVariants.{Throw, Fault as CallFault, Memory as CallMemory}
 use Rattle.resin_step_parts.specs.Under.scalar.declared.faults.ScriptFault.TheVariants.{FuelSpent, TextTooLong}

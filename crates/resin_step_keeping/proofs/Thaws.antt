@@ -7,7 +7,8 @@ use Rattle.resin_shadow.specs.Marks.{Marks, policies}
 use Rattle.resin_step_parts.specs.Under.store.Entries.{Marked, LabelledEntry, Good, Bad, plain, lift, plain_bytes, marks, marks_in}
 use Rattle.resin_step_parts.proofs.meaning_lemmas.OneCall.{kept_entry}
 use Rattle.resin_step_parts.specs.Under.base.declared.files.Entry.{Entry}
-use Rattle.resin_step_parts.specs.Under.lstr.Texts.{Text as LabelledText, LONGEST}
+use Rattle.resin_step_parts.specs.Under.lstr.declared.limits.TheConstants.{LONGEST}
+use Rattle.resin_step_parts.specs.Under.lstr.Texts.{Text as LabelledText}
 use Rattle.resin_step_parts.specs.Under.scalar.declared.faults.ScriptFault.{ScriptFault}
 use Rattle.resin_step_parts.specs.Under.scalar.declared.faults.ScriptFault.TheVariants.{TextTooLong, BadShadow}
 use Rattle.resin_step_parts.specs.Under.value.declared.key.Key.{Key}

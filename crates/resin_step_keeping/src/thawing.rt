@@ -13,7 +13,7 @@ use resin_shadow::FrozenRuns;
 use resin_step_parts::reads::plain;
 use resin_step_parts::under::base::Entry;
 use resin_step_parts::under::heap::PreludeClass;
-use resin_step_parts::under::lstr::{LText, LONGEST};
+use resin_step_parts::under::lstr::{LONGEST, LText};
 use resin_step_parts::under::machine::{Machine, Stop};
 use resin_step_parts::under::scalar::ScriptFault;
 use resin_step_parts::under::store::policies_of;

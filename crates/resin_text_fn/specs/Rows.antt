@@ -6,7 +6,8 @@ use Rattle.std.specs.List.{slice_get, slice_range, prefix_len, suffix_len, list_
 use Rattle.std.specs.Char.{to_ascii_uppercase, to_ascii_lowercase}
 use Rattle.std.specs.declared.cmp.Ordering.{Ordering}
 use Rattle.std.specs.declared.cmp.Ordering.TheVariants.{Less, Equal, Greater}
-use Rattle.resin_lstr.specs.Texts.{Text, LONGEST, bytes_of}
+use Rattle.resin_lstr.specs.declared.limits.TheConstants.{LONGEST}
+use Rattle.resin_lstr.specs.Texts.{Text, bytes_of}
 use Rattle.resin_scalar.specs.Scalars.{byte_order}
 use Rattle.resin_scalar.specs.declared.faults.CallStop.{CallStop}
 use Rattle.resin_scalar.specs.declared.faults.CallStop.TheVariants.{Throw, Fault}

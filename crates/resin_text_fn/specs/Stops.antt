@@ -1,6 +1,7 @@
 -- What a call that may run out of memory gives in the place of a rule's answer.
 use Rattle.std.specs.Prelude.{◌≡◌, ℕ, nat_le, if◌then◌else◌, length, Result, Ok, Err}
-use Rattle.resin_lstr.specs.Texts.{Text, LONGEST}
+use Rattle.resin_lstr.specs.declared.limits.TheConstants.{LONGEST}
+use Rattle.resin_lstr.specs.Texts.{Text}
 use Rattle.resin_lstr.specs.declared.text.TextFault.{TextFault}
 use Rattle.resin_lstr.specs.declared.text.TextFault.TheVariants.{TooLong, Memory as NoMemory}
 use Rattle.resin_scalar.specs.declared.faults.CallStop.{CallStop}

@@ -1,7 +1,7 @@
 //! Texts that are repeated or joined.
 ghost use Rattle.std.specs.Prelude.{◌≡◌, ◌<◌, ◌≤◌, ◌++◌, length};
 ghost use Rattle.std.specs.List.{repeat, join_by};
-ghost use Rattle.resin_lstr.specs.Texts.{LONGEST};
+ghost use Rattle.resin_lstr.specs.declared.limits.TheConstants.{LONGEST};
 ghost use Rattle.resin_lstr.specs.Faults.{GivesText};
 ghost use Rattle.resin_text_fn.specs.Stops.{GivesOrNoMemory};
 ghost use Rattle.resin_text_fn.specs.Rows.{str_repeat, cycled, lacking, str_pad, implode};

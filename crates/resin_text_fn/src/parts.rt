@@ -1,7 +1,8 @@
 //! Parts of texts.
 ghost use Rattle.std.specs.Prelude.{◌≡◌, ℕ, ◌-◌, ◌<◌, ◌≤◌, false, length, Ok, IfOk};
 ghost use Rattle.std.specs.List.{prefix_len, suffix_len, slice_index_or};
-ghost use Rattle.resin_lstr.specs.Texts.{LONGEST, ArePartsFrom};
+ghost use Rattle.resin_lstr.specs.declared.limits.TheConstants.{LONGEST};
+ghost use Rattle.resin_lstr.specs.Texts.{ArePartsFrom};
 ghost use Rattle.resin_scalar.specs.Stops.{Gives};
 ghost use Rattle.resin_text_fn.specs.Matches.{pieces_round};
 ghost use Rattle.resin_text_fn.specs.Rows.{part_start, part_end, substr, is_among, ltrim, rtrim, trim, explode};

@@ -1,6 +1,7 @@
 //! Searches and comparisons of texts, by their bytes.
 ghost use Rattle.std.specs.Prelude.{◌≡◌, ℕ, ◌+◌, ◌<◌, ◌≤◌, pos, length, map, Ok, IfOk, IfSome};
-ghost use Rattle.resin_lstr.specs.Texts.{LONGEST, ArePartsFrom};
+ghost use Rattle.resin_lstr.specs.declared.limits.TheConstants.{LONGEST};
+ghost use Rattle.resin_lstr.specs.Texts.{ArePartsFrom};
 ghost use Rattle.resin_text_fn.specs.Matches.{first_place, last_place, matched_parts, AreLeftmost};
 ghost use Rattle.memchr.specs.Find.{FindsNeedle, FindsLastNeedle};
 ghost use Rattle.resin_text_fn.specs.Rows.{offset_place, strpos, strrpos, str_contains, str_starts_with, str_ends_with, substr_count, sign_of, strcmp};

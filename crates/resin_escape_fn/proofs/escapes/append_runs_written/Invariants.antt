@@ -1,5 +1,5 @@
 use Rattle.std.proofs.Common.{◌≡◌, ◌≤◌, ◌++◌, length, take}
-use Rattle.resin_lstr.specs.Texts.{LONGEST}
+use Rattle.resin_lstr.specs.declared.limits.TheConstants.{LONGEST}
 use Rattle.resin_lstr.specs.Runs.{last_end, text_of}
 use Rattle.resin_escape_fn.specs.Escapes.{escaped}
 use Rattle.resin_escape_fn.specs.Rules.{rule_of}

@@ -1,6 +1,6 @@
 -- the texts so far are the last ones, joined
 use Rattle.std.proofs.Common.{◌≡◌, ◌-◌, ◌≤◌, length, drop}
-use Rattle.resin_eval_calls.specs.Under.lstr.Texts.{LONGEST}
+use Rattle.resin_eval_calls.specs.Under.lstr.declared.limits.TheConstants.{LONGEST}
 use Rattle.resin_interp.specs.Pages.{joined_outwards}
 use Rattle.resin_interp.proofs.pages.joined.Given as goal
 

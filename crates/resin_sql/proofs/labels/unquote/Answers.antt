@@ -1,5 +1,5 @@
 use Rattle.std.proofs.Common.{◌≡◌, ◌≤◌, length, slice_range, subst, ◌∙◌, arith}
-use Rattle.resin_lstr.specs.Texts.{LONGEST}
+use Rattle.resin_lstr.specs.declared.limits.TheConstants.{LONGEST}
 use Rattle.resin_sql.specs.Labels.{unquoted}
 use Rattle.resin_sql.proofs.Quotes.{all_put}
 use Rattle.resin_sql.proofs.labels.unquote.Goals as goal

@@ -1,6 +1,6 @@
 use Rattle.std.proofs.Common.{◌≡◌, ◌≤◌, ◌++◌, length}
 use Rattle.std.specs.List.{repeat}
-use Rattle.resin_lstr.specs.Texts.{LONGEST}
+use Rattle.resin_lstr.specs.declared.limits.TheConstants.{LONGEST}
 use Rattle.resin_text_fn.proofs.join.repeated.Given as goal
 
 abbrev pub invariant-loop-left : goal.invariant-loop-left

@@ -1,6 +1,6 @@
 use Rattle.std.proofs.Common.{◌≡◌, ◌≤◌, length, take, drop}
 use Rattle.std.specs.Prelude.{reverse}
-use Rattle.resin_lstr.specs.Texts.{LONGEST}
+use Rattle.resin_lstr.specs.declared.limits.TheConstants.{LONGEST}
 use Rattle.resin_lstr.specs.Runs.{last_end}
 use Rattle.resin_text_fn.proofs.letters.reversed.Given as goal
 
