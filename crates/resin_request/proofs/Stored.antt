@@ -4,7 +4,8 @@ use Rattle.std.specs.List.{list_all, AllByRecursion}
 use Rattle.std.specs.Option.{option_map}
 use Rattle.std.specs.Prelude.{nat_le}
 use Rattle.std.proofs.lemmas.List.{length-map}
-use Rattle.resin_inputs.specs.Under.lstr.Texts.{Text as LabelledText, LONGEST}
+use Rattle.resin_inputs.specs.Under.lstr.declared.limits.TheConstants.{LONGEST}
+use Rattle.resin_inputs.specs.Under.lstr.Texts.{Text as LabelledText}
 use Rattle.resin_inputs.specs.Under.scalar.declared.faults.CallStop.{CallStop}
 use Rattle.resin_inputs.specs.Under.scalar.declared.faults.CallStop.TheVariants.{Fault as CallFault, Memory as CallMemory}
 use Rattle.resin_inputs.specs.Under.scalar.declared.faults.ScriptFault.TheVariants.{NotStorable, TextTooLong}

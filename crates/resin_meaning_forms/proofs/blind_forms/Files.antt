@@ -3,7 +3,8 @@ use Rattle.std.specs.Prelude.{ℕ, ℤ, pos, ◌+◌, ◌==◌, ◌&&◌, ◌||�
 use Rattle.std.specs.Ordering.{int_eq}
 use Rattle.resin_builtin.specs.Under.bytes.Paths.{is_lawful_path}
 use Rattle.resin_builtin.specs.Under.label.Sets.{empty as no_labels}
-use Rattle.resin_builtin.specs.Under.lstr.Texts.{Text as LabelledText, bytes_of, LONGEST}
+use Rattle.resin_builtin.specs.Under.lstr.declared.limits.TheConstants.{LONGEST}
+use Rattle.resin_builtin.specs.Under.lstr.Texts.{Text as LabelledText, bytes_of}
 use Rattle.resin_target.specs.Under.journal.declared.channel.Channel.TheVariants.{File}
 use Rattle.resin_builtin.specs.Under.scalar.declared.faults.ScriptFault.TheVariants.{BadShadow, TextTooLong}
 use Rattle.resin_builtin.specs.Under.value.Trees.{Tree, boolean, integer, text}

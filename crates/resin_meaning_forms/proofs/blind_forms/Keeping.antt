@@ -2,7 +2,8 @@
 use Rattle.std.specs.Prelude.{ℕ, Bool, ◌==◌, ◌&&◌, nat_lt, not, slice_index_or, List, [], ◌∷◌, ◌++◌, length, map, zip, codes, Option, None, Some, if◌then◌else◌}
 use Rattle.std.specs.Option.{option_map, option_and_then}
 use Rattle.resin_builtin.specs.Under.label.Sets.{NumberSet, numbers, empty as no_labels, set_of as labels_of}
-use Rattle.resin_builtin.specs.Under.lstr.Texts.{Text as LabelledText, LONGEST, carrying}
+use Rattle.resin_builtin.specs.Under.lstr.declared.limits.TheConstants.{LONGEST}
+use Rattle.resin_builtin.specs.Under.lstr.Texts.{Text as LabelledText, carrying}
 use Rattle.resin_builtin.specs.Under.scalar.declared.faults.ScriptFault.TheVariants.{NotStorable, TextTooLong, BadShadow}
 use Rattle.resin_builtin.specs.Under.value.declared.key.Key.{Key}
 use Rattle.resin_builtin.specs.Under.value.declared.key.Key.TheVariants.{Int as IntKey, Text as TextKey}

@@ -6,7 +6,8 @@ use Rattle.std.specs.Ordering.{is_lt, is_le, is_gt, is_ge}
 use Rattle.std.specs.declared.cmp.Ordering.{Ordering}
 use Rattle.std.specs.declared.cmp.Ordering.TheVariants.{Less as Below, Equal as Same, Greater as Above}
 use Rattle.resin_builtin.specs.Under.label.Sets.{NumberSet, empty as no_labels}
-use Rattle.resin_builtin.specs.Under.lstr.Texts.{Text as LabelledText, LONGEST}
+use Rattle.resin_builtin.specs.Under.lstr.declared.limits.TheConstants.{LONGEST}
+use Rattle.resin_builtin.specs.Under.lstr.Texts.{Text as LabelledText}
 use Rattle.resin_builtin.specs.Under.scalar.declared.faults.CallStop.{CallStop}
 use Rattle.resin_builtin.specs.Under.scalar.declared.faults.CallStop.TheVariants.{Fault as CallFault}
 use Rattle.resin_builtin.specs.Under.scalar.declared.faults.ScriptFault.TheVariants.{BadOperand, ObjectComparison, FloatNeeded, FuelSpent, TextTooLong}
