@@ -25,32 +25,32 @@ use Rattle.resin_meaning_forms.proofs.blind_forms.Targets.{steps_blind}
 use Rattle.resin_meaning_forms.proofs.blind_forms.Operators.{combined_blind}
 use Rattle.resin_meaning_forms.proofs.blind_forms.Merges.{merge_blind}
 
-pub stored_value_blind : {own : Option (List ℕ)} (x : List ℕ) (path : Path) (v : Value) → IsBlind own {A = Value} (stored_value x path v)
+pub stored_value_blind : {own : Option (List ℕ)} (x : List ℕ) (path : Path) (v : Value) → IsBlind {A = Value} own (stored_value x path v)
 stored_value_blind x path v = search blinding depth 12
 
-pub assign_blind : {own : Option (List ℕ)} (ev : Evals) (t : Target) (e : Expr) → BlindEvals own ev → IsBlind own {A = Value} (assign ev t e)
+pub assign_blind : {own : Option (List ℕ)} (ev : Evals) (t : Target) (e : Expr) → BlindEvals own ev → IsBlind {A = Value} own (assign ev t e)
 assign_blind ev t e h = search (blinding, steps_blind, stored_value_blind, h.expr) depth 12
 
-pub compound_blind : {own : Option (List ℕ)} (ev : Evals) (op : Combining) (t : Target) (e : Expr) → BlindEvals own ev → IsBlind own {A = Value} (compound ev op t e)
+pub compound_blind : {own : Option (List ℕ)} (ev : Evals) (op : Combining) (t : Target) (e : Expr) → BlindEvals own ev → IsBlind {A = Value} own (compound ev op t e)
 compound_blind ev op t e h = search (blinding, combined_blind, steps_blind, stored_value_blind, h.expr) depth 12
 
-pub coalesce_assign_blind : {own : Option (List ℕ)} (ev : Evals) (t : Target) (e : Expr) → BlindEvals own ev → IsBlind own {A = Value} (coalesce_assign ev t e)
+pub coalesce_assign_blind : {own : Option (List ℕ)} (ev : Evals) (t : Target) (e : Expr) → BlindEvals own ev → IsBlind {A = Value} own (coalesce_assign ev t e)
 coalesce_assign_blind ev t e h = search (blinding, steps_blind, stored_value_blind, h.expr) depth 12
 
-pub incremented_blind : {own : Option (List ℕ)} (ev : Evals) (v : Value) → BlindEvals own ev → IsBlind own {A = Value} (incremented ev v)
+pub incremented_blind : {own : Option (List ℕ)} (ev : Evals) (v : Value) → BlindEvals own ev → IsBlind {A = Value} own (incremented ev v)
 incremented_blind ev (Int n s) h = search (blinding, merge_blind) depth 12
 incremented_blind ev Null h = search blinding depth 12
 incremented_blind ev v h = search blinding depth 12
 
-pub decremented_blind : {own : Option (List ℕ)} (ev : Evals) (v : Value) → BlindEvals own ev → IsBlind own {A = Value} (decremented ev v)
+pub decremented_blind : {own : Option (List ℕ)} (ev : Evals) (v : Value) → BlindEvals own ev → IsBlind {A = Value} own (decremented ev v)
 decremented_blind ev (Int n s) h = search (blinding, merge_blind) depth 12
 decremented_blind ev v h = search blinding depth 12
 
-pub changed_blind : {own : Option (List ℕ)} (ev : Evals) (change : (Value → Prog Value)) (t : Target) → BlindEvals own ev → ((x0 : Value) → IsBlind own (change x0)) → IsBlind own {A = (Value × Value)} (changed ev change t)
+pub changed_blind : {own : Option (List ℕ)} (ev : Evals) (change : (Value → Prog Value)) (t : Target) → BlindEvals own ev → ((x0 : Value) → IsBlind own (change x0)) → IsBlind {A = (Value × Value)} own (changed ev change t)
 changed_blind ev change t h h_change = search (blinding, steps_blind, stored_value_blind) depth 12
 
-pub assignment_form_blind : {own : Option (List ℕ)} (ev : Evals) (a : Assignment) → BlindEvals own ev → IsBlind own {A = Value} (assignment_form ev a)
-assignment_form_blind ev a h = elim (out-Assignment a) as (λ x. IsBlind own {A = Value} (elim x [
+pub assignment_form_blind : {own : Option (List ℕ)} (ev : Evals) (a : Assignment) → BlindEvals own ev → IsBlind {A = Value} own (assignment_form ev a)
+assignment_form_blind {own = own} ev a h = elim (out-Assignment a) as (λ x. IsBlind {A = Value} own (elim x [
   | Assignment-F.Assign t e ↦ assign ev t e
   | Assignment-F.Compound op t e ↦ compound ev op t e
   | Assignment-F.CoalesceAssign t e ↦ coalesce_assign ev t e

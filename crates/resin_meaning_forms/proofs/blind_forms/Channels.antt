@@ -34,21 +34,21 @@ use Rattle.resin_meaning_forms.proofs.blind_forms.Files.{exists_blind, get_conte
 use Rattle.resin_meaning_forms.proofs.blind_forms.Parts.{charged_blind, given_blind}
 use Rattle.resin_meaning_forms.proofs.blind_forms.Functions.{arguments_of_blind, counted_blind}
 
-pub flushed_blind : {own : Option (List ℕ)} (ev : Evals) (a1 : Option LabelledText) → BlindEvals own ev → IsBlind own {A = Tree} (flushed ev a1)
+pub flushed_blind : {own : Option (List ℕ)} (ev : Evals) (a1 : Option LabelledText) → BlindEvals own ev → IsBlind {A = Tree} own (flushed ev a1)
 flushed_blind ev None h = search blinding depth 12
 flushed_blind ev (Some t) h = search (blinding, write_page_blind) depth 12
 
-pub leave_status_blind : {own : Option (List ℕ)} (ev : Evals) (status : ℕ) (told : LabelledText) → BlindEvals own ev → IsBlind own {A = Tree} (leave_status ev status told)
+pub leave_status_blind : {own : Option (List ℕ)} (ev : Evals) (status : ℕ) (told : LabelledText) → BlindEvals own ev → IsBlind {A = Tree} own (leave_status ev status told)
 leave_status_blind ev status told h = search (blinding, leave_blind) depth 12
 
-pub set_status_blind : {own : Option (List ℕ)} (ev : Evals) (a1 : Option ℕ) (n : Tree) → BlindEvals own ev → IsBlind own {A = Tree} (set_status ev a1 n)
+pub set_status_blind : {own : Option (List ℕ)} (ev : Evals) (a1 : Option ℕ) (n : Tree) → BlindEvals own ev → IsBlind {A = Tree} own (set_status ev a1 n)
 set_status_blind ev None n h = search blinding depth 12
 set_status_blind ev (Some status) n h = search (blinding, leave_status_blind) depth 12
 
-pub unbuilt_blind : {own : Option (List ℕ)} {A : Type 0} → IsBlind own {A = A} unbuilt
+pub unbuilt_blind : {own : Option (List ℕ)} {A : Type 0} → IsBlind {A = A} own unbuilt
 unbuilt_blind = search blinding depth 12
 
-pub channel_work_blind : {own : Option (List ℕ)} (ev : Evals) (f : ChannelFunction) (ts : List Tree) → BlindEvals own ev → IsBlind own {A = Tree} (channel_work ev f ts)
+pub channel_work_blind : {own : Option (List ℕ)} (ev : Evals) (f : ChannelFunction) (ts : List Tree) → BlindEvals own ev → IsBlind {A = Tree} own (channel_work ev f ts)
 channel_work_blind ev BufferStart ts h = search blinding depth 12
 channel_work_blind ev BufferGetClean ts h = search blinding depth 12
 channel_work_blind ev BufferEndClean ts h = search blinding depth 12
@@ -62,5 +62,5 @@ channel_work_blind ev Unlink (text path ∷ ts) h = search (blinding, unlink_bli
 channel_work_blind ev FileExists (text path ∷ ts) h = search (blinding, exists_blind) depth 12
 channel_work_blind ev f ts h = search (blinding, unbuilt_blind) depth 12
 
-pub channel_function_blind : {own : Option (List ℕ)} (ev : Evals) (f : ChannelFunction) (ts : List Tree) → BlindEvals own ev → IsBlind own {A = Value} (channel_function ev f ts)
+pub channel_function_blind : {own : Option (List ℕ)} (ev : Evals) (f : ChannelFunction) (ts : List Tree) → BlindEvals own ev → IsBlind {A = Value} own (channel_function ev f ts)
 channel_function_blind ev f ts h = search (blinding, charged_blind, given_blind, counted_blind, arguments_of_blind, channel_work_blind) depth 12

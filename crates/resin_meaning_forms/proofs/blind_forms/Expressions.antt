@@ -35,30 +35,30 @@ use Rattle.resin_meaning_forms.proofs.blind_forms.Calls.{call_form_blind, values
 use Rattle.resin_meaning_forms.proofs.blind_forms.Operators.{combined_blind, compared_blind, instance_of_blind, unary_blind}
 use Rattle.resin_meaning_forms.proofs.blind_forms.Assignments.{assignment_form_blind}
 
-pub item_key_blind : {own : Option (List ℕ)} (ev : Evals) (a1 : Option Expr) → BlindEvals own ev → IsBlind own {A = (Option Value)} (item_key ev a1)
+pub item_key_blind : {own : Option (List ℕ)} (ev : Evals) (a1 : Option Expr) → BlindEvals own ev → IsBlind {A = (Option Value)} own (item_key ev a1)
 item_key_blind ev None h = search blinding depth 12
 item_key_blind ev (Some e) h = search (blinding, h.expr) depth 12
 
-pub turned_key_blind : {own : Option (List ℕ)} (a0 : Option Value) → IsBlind own {A = (Option Key)} (turned_key a0)
+pub turned_key_blind : {own : Option (List ℕ)} (a0 : Option Value) → IsBlind {A = (Option Key)} own (turned_key a0)
 turned_key_blind None = search blinding depth 12
 turned_key_blind (Some k) = search (blinding, keyed_blind) depth 12
 
-pub items_blind : {own : Option (List ℕ)} (ev : Evals) (a : Array) (a2 : List ArrayItem) → BlindEvals own ev → IsBlind own {A = Array} (items ev a a2)
+pub items_blind : {own : Option (List ℕ)} (ev : Evals) (a : Array) (a2 : List ArrayItem) → BlindEvals own ev → IsBlind {A = Array} own (items ev a a2)
 items_blind ev a [] h = search blinding depth 12
 items_blind ev a (i ∷ is) h = let ih = λ (y1 : Array). items_blind ev y1 is h in search (blinding, item_key_blind, turned_key_blind, h.expr, ih) depth 12
 
-pub array_form_blind : {own : Option (List ℕ)} (ev : Evals) (is : List ArrayItem) → BlindEvals own ev → IsBlind own {A = Value} (array_form ev is)
+pub array_form_blind : {own : Option (List ℕ)} (ev : Evals) (is : List ArrayItem) → BlindEvals own ev → IsBlind {A = Value} own (array_form ev is)
 array_form_blind ev is h = search (blinding, items_blind) depth 12
 
-pub joined_blind : {own : Option (List ℕ)} (t : LabelledText) (a1 : List Tree) → IsBlind own {A = LabelledText} (joined t a1)
+pub joined_blind : {own : Option (List ℕ)} (t : LabelledText) (a1 : List Tree) → IsBlind {A = LabelledText} own (joined t a1)
 joined_blind t [] = search blinding depth 12
 joined_blind t (v ∷ vs) = let ih = λ (y0 : LabelledText). joined_blind y0 vs in search (blinding, ih) depth 12
 
-pub interpolated_blind : {own : Option (List ℕ)} (ev : Evals) (es : List Expr) → BlindEvals own ev → IsBlind own {A = Value} (interpolated ev es)
+pub interpolated_blind : {own : Option (List ℕ)} (ev : Evals) (es : List Expr) → BlindEvals own ev → IsBlind {A = Value} own (interpolated ev es)
 interpolated_blind ev es h = search (blinding, charged_blind, given_blind, values_blind, joined_blind) depth 12
 
-pub access_form_blind : {own : Option (List ℕ)} (ev : Evals) (a : Access) → BlindEvals own ev → IsBlind own {A = Value} (access_form ev a)
-access_form_blind ev a h = elim (out-Access a) as (λ x. IsBlind own {A = Value} (elim x [
+pub access_form_blind : {own : Option (List ℕ)} (ev : Evals) (a : Access) → BlindEvals own ev → IsBlind {A = Value} own (access_form ev a)
+access_form_blind {own = own} ev a h = elim (out-Access a) as (λ x. IsBlind {A = Value} own (elim x [
   | Access-F.«Access::Index» b e ↦ ev.expr b >>= λ v. ev.expr e >>= λ k. index_of v k
   | Access-F.«Access::Property» b p ↦ ev.expr b >>= λ v. property_of v p
 ])) [
@@ -66,8 +66,8 @@ access_form_blind ev a h = elim (out-Access a) as (λ x. IsBlind own {A = Value}
   | Access-F.«Access::Property» b p ↦ search (blinding, index_of_blind, property_of_blind, h.expr) depth 12
 ]
 
-pub operation_form_blind : {own : Option (List ℕ)} (ev : Evals) (o : Operation) → BlindEvals own ev → IsBlind own {A = Value} (operation_form ev o)
-operation_form_blind ev o h = elim (out-Operation o) as (λ x. IsBlind own {A = Value} (elim x [
+pub operation_form_blind : {own : Option (List ℕ)} (ev : Evals) (o : Operation) → BlindEvals own ev → IsBlind {A = Value} own (operation_form ev o)
+operation_form_blind {own = own} ev o h = elim (out-Operation o) as (λ x. IsBlind {A = Value} own (elim x [
   | Operation-F.Unary op a ↦ ev.expr a >>= λ x. unary ev op x
   | Operation-F.Combine op a b ↦ ev.expr a >>= λ x. ev.expr b >>= λ y. combined ev op x y
   | Operation-F.Compare op a b ↦ ev.expr a >>= λ x. ev.expr b >>= λ y. compared op x y
@@ -79,12 +79,12 @@ operation_form_blind ev o h = elim (out-Operation o) as (λ x. IsBlind own {A = 
   | Operation-F.InstanceOf a c ↦ search (blinding, combined_blind, unary_blind, compared_blind, instance_of_blind, h.expr) depth 12
 ]
 
-pub all_set_blind : {own : Option (List ℕ)} (ev : Evals) (a1 : List Expr) → BlindEvals own ev → IsBlind own {A = Value} (all_set ev a1)
+pub all_set_blind : {own : Option (List ℕ)} (ev : Evals) (a1 : List Expr) → BlindEvals own ev → IsBlind {A = Value} own (all_set ev a1)
 all_set_blind ev [] h = search blinding depth 12
 all_set_blind ev (e ∷ es) h = let ih = all_set_blind ev es h in search (blinding, h.soft) depth 12
 
-pub test_form_blind : {own : Option (List ℕ)} (ev : Evals) (t : Test) → BlindEvals own ev → IsBlind own {A = Value} (test_form ev t)
-test_form_blind ev t h = elim (out-Test t) as (λ x. IsBlind own {A = Value} (elim x [
+pub test_form_blind : {own : Option (List ℕ)} (ev : Evals) (t : Test) → BlindEvals own ev → IsBlind {A = Value} own (test_form ev t)
+test_form_blind {own = own} ev t h = elim (out-Test t) as (λ x. IsBlind {A = Value} own (elim x [
   | Test-F.And a b ↦ ev.expr a >>= λ x. if holds x then (ev.expr b >>= λ y. give (Boolean (holds y))) else give (Boolean false)
   | Test-F.Or a b ↦ ev.expr a >>= λ x. if holds x then give (Boolean true) else (ev.expr b >>= λ y. give (Boolean (holds y)))
   | Test-F.Coalesce a b ↦ ev.soft a >>= λ x. if is_nothing x then ev.expr b else give x
@@ -102,8 +102,8 @@ test_form_blind ev t h = elim (out-Test t) as (λ x. IsBlind own {A = Value} (el
   | Test-F.Empty e ↦ search (blinding, all_set_blind, h.expr, h.soft) depth 12
 ]
 
-pub expr_form_blind : {own : Option (List ℕ)} (ev : Evals) (e : Expr) → BlindEvals own ev → IsBlind own {A = Value} (expr_form ev e)
-expr_form_blind ev e h = elim (out-Expr e) as (λ x. IsBlind own {A = Value} (elim x [
+pub expr_form_blind : {own : Option (List ℕ)} (ev : Evals) (e : Expr) → BlindEvals own ev → IsBlind {A = Value} own (expr_form ev e)
+expr_form_blind {own = own} ev e h = elim (out-Expr e) as (λ x. IsBlind {A = Value} own (elim x [
   | Expr-F.Literal l ↦ give (value_of (literal_of l))
   | Expr-F.Variable x ↦ act (read x)
   | Expr-F.Array is ↦ array_form ev is
@@ -125,8 +125,8 @@ expr_form_blind ev e h = elim (out-Expr e) as (λ x. IsBlind own {A = Value} (el
   | Expr-F.Call c ↦ search (blinding, call_form_blind, assignment_form_blind, array_form_blind, interpolated_blind, access_form_blind, operation_form_blind, test_form_blind) depth 12
 ]
 
-pub soft_access_form_blind : {own : Option (List ℕ)} (ev : Evals) (a : Access) → BlindEvals own ev → IsBlind own {A = Value} (soft_access_form ev a)
-soft_access_form_blind ev a h = elim (out-Access a) as (λ x. IsBlind own {A = Value} (elim x [
+pub soft_access_form_blind : {own : Option (List ℕ)} (ev : Evals) (a : Access) → BlindEvals own ev → IsBlind {A = Value} own (soft_access_form ev a)
+soft_access_form_blind {own = own} ev a h = elim (out-Access a) as (λ x. IsBlind {A = Value} own (elim x [
   | Access-F.«Access::Index» b e ↦ ev.soft b >>= λ v. ev.expr e >>= λ k. soft_index_of v k
   | Access-F.«Access::Property» b p ↦ ev.soft b >>= λ v. property_of v p
 ])) [
@@ -134,8 +134,8 @@ soft_access_form_blind ev a h = elim (out-Access a) as (λ x. IsBlind own {A = V
   | Access-F.«Access::Property» b p ↦ search (blinding, soft_index_of_blind, property_of_blind, h.expr, h.soft) depth 12
 ]
 
-pub soft_form_blind : {own : Option (List ℕ)} (ev : Evals) (e : Expr) → BlindEvals own ev → IsBlind own {A = Value} (soft_form ev e)
-soft_form_blind ev e h = elim (out-Expr e) as (λ x. IsBlind own {A = Value} (elim x [
+pub soft_form_blind : {own : Option (List ℕ)} (ev : Evals) (e : Expr) → BlindEvals own ev → IsBlind {A = Value} own (soft_form ev e)
+soft_form_blind {own = own} ev e h = elim (out-Expr e) as (λ x. IsBlind {A = Value} own (elim x [
   | Expr-F.Access a ↦ soft_access_form ev a
   | Expr-F.Literal l ↦ expr_form ev e
   | Expr-F.Variable x ↦ expr_form ev e

@@ -23,41 +23,41 @@ use Rattle.resin_meaning_forms.proofs.Blindness.{blind_bind, blind_ended, blind_
 use Rattle.resin_meaning_forms.proofs.blind_forms.Keeping.{freeze_text_blind, thaw_entry_blind}
 use Rattle.resin_meaning_forms.proofs.blind_forms.Reading.{keep_through_blind, read_through_blind}
 
-pub at_lawful_blind : {own : Option (List ℕ)} {A : Type 0} (path : List ℕ) (p : Prog A) → (is_lawful_path path ≡ true → IsBlind own p) → IsBlind own {A = A} (at_lawful path p)
+pub at_lawful_blind : {own : Option (List ℕ)} {A : Type 0} (path : List ℕ) (p : Prog A) → (is_lawful_path path ≡ true → IsBlind own p) → IsBlind {A = A} own (at_lawful path p)
 at_lawful_blind path p h_p = blind_where (is_lawful_path path) p (thrown_new ValueError) h_p (search blinding)
 
-pub contents_of_blind : {own : Option (List ℕ)} (ev : Evals) (path : List ℕ) (a2 : Option LabelledEntry) → BlindEvals own ev → IsBlind own {A = Tree} (contents_of ev path a2)
+pub contents_of_blind : {own : Option (List ℕ)} (ev : Evals) (path : List ℕ) (a2 : Option LabelledEntry) → BlindEvals own ev → IsBlind {A = Tree} own (contents_of ev path a2)
 contents_of_blind ev path None h = search blinding depth 12
 contents_of_blind ev path (Some e) h = search (blinding, thaw_entry_blind, read_through_blind) depth 12
 
-pub get_contents_blind : {own : Option (List ℕ)} (ev : Evals) (path : List ℕ) → BlindEvals own ev → IsBlind own {A = Tree} (get_contents ev path)
+pub get_contents_blind : {own : Option (List ℕ)} (ev : Evals) (path : List ℕ) → BlindEvals own ev → IsBlind {A = Tree} own (get_contents ev path)
 get_contents_blind ev path h =
     at_lawful_blind path _ (λ k. blind_bind _ _ (blind_read path (lawful_seen _ path k)) (λ e. contents_of_blind ev path e h))
 
-pub longer_blind : {own : Option (List ℕ)} (old : Marked) (new : Marked) → IsBlind own {A = Marked} (longer old new)
+pub longer_blind : {own : Option (List ℕ)} (old : Marked) (new : Marked) → IsBlind {A = Marked} own (longer old new)
 longer_blind old new = search blinding depth 12
 
-pub behind_held_blind : {own : Option (List ℕ)} (new : Marked) (a1 : LabelledEntry) → IsBlind own {A = Marked} (behind_held new a1)
+pub behind_held_blind : {own : Option (List ℕ)} (new : Marked) (a1 : LabelledEntry) → IsBlind {A = Marked} own (behind_held new a1)
 behind_held_blind new (Good old version) = search (blinding, longer_blind) depth 12
 behind_held_blind new (Bad bytes shadow) = search blinding depth 12
 
-pub behind_found_blind : {own : Option (List ℕ)} (new : Marked) (a1 : Option LabelledEntry) → IsBlind own {A = Marked} (behind_found new a1)
+pub behind_found_blind : {own : Option (List ℕ)} (new : Marked) (a1 : Option LabelledEntry) → IsBlind {A = Marked} own (behind_found new a1)
 behind_found_blind new None = search blinding depth 12
 behind_found_blind new (Some e) = search (blinding, behind_held_blind) depth 12
 
-pub to_hold_blind : {own : Option (List ℕ)} (path : List ℕ) (flags : ℤ) (new : Marked) → is_of_other own path ≡ false → IsBlind own {A = Marked} (to_hold path flags new)
+pub to_hold_blind : {own : Option (List ℕ)} (path : List ℕ) (flags : ℤ) (new : Marked) → is_of_other own path ≡ false → IsBlind {A = Marked} own (to_hold path flags new)
 to_hold_blind path flags new k =
     blind_if _ _ _ (blind_bind _ _ (blind_read path k) (λ e. behind_found_blind new e)) (blind_ended (Ok new))
 
-pub put_data_blind : {own : Option (List ℕ)} (ev : Evals) (path : List ℕ) (t : LabelledText) (flags : ℤ) → is_of_other own path ≡ false → BlindEvals own ev → IsBlind own {A = Tree} (put_data ev path t flags)
+pub put_data_blind : {own : Option (List ℕ)} (ev : Evals) (path : List ℕ) (t : LabelledText) (flags : ℤ) → is_of_other own path ≡ false → BlindEvals own ev → IsBlind {A = Tree} own (put_data ev path t flags)
 put_data_blind ev path t flags k h = search (blinding, freeze_text_blind, keep_through_blind, to_hold_blind, blind_write) depth 12
 
-pub put_contents_blind : {own : Option (List ℕ)} (ev : Evals) (path : List ℕ) (t : LabelledText) (flags : ℤ) → BlindEvals own ev → IsBlind own {A = Tree} (put_contents ev path t flags)
+pub put_contents_blind : {own : Option (List ℕ)} (ev : Evals) (path : List ℕ) (t : LabelledText) (flags : ℤ) → BlindEvals own ev → IsBlind {A = Tree} own (put_contents ev path t flags)
 put_contents_blind ev path t flags h =
     at_lawful_blind path _ (λ k. blind_if _ _ _ (put_data_blind ev path t flags (lawful_seen _ path k) h) (search blinding))
 
-pub unlink_blind : {own : Option (List ℕ)} (path : List ℕ) → IsBlind own {A = Tree} (unlink path)
+pub unlink_blind : {own : Option (List ℕ)} (path : List ℕ) → IsBlind {A = Tree} own (unlink path)
 unlink_blind path = at_lawful_blind path _ (λ k. blind_bind _ _ (blind_remove path (lawful_seen _ path k)) (λ b. blind_ended (Ok (boolean b))))
 
-pub exists_blind : {own : Option (List ℕ)} (path : List ℕ) → IsBlind own {A = Tree} (exists path)
+pub exists_blind : {own : Option (List ℕ)} (path : List ℕ) → IsBlind {A = Tree} own (exists path)
 exists_blind path = at_lawful_blind path _ (λ k. blind_bind _ _ (blind_exists path (lawful_seen _ path k)) (λ b. blind_ended (Ok (boolean b))))

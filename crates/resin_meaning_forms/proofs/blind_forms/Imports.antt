@@ -34,25 +34,25 @@ use Rattle.resin_meaning_forms.proofs.blind_forms.Sources.{source_blind}
 use Rattle.resin_meaning_forms.proofs.blind_forms.Parts.{charge_text_blind}
 use Rattle.resin_meaning_forms.proofs.blind_forms.Files.{at_lawful_blind}
 
-pub code_of_blind : {own : Option (List ℕ)} (ev : Evals) (path : List ℕ) (e : LabelledEntry) → BlindEvals own ev → IsBlind own {A = (List ℕ)} (code_of ev path e)
+pub code_of_blind : {own : Option (List ℕ)} (ev : Evals) (path : List ℕ) (e : LabelledEntry) → BlindEvals own ev → IsBlind {A = (List ℕ)} own (code_of ev path e)
 code_of_blind ev path e h = search (blinding, thaw_entry_blind, read_through_blind) depth 12
 
-pub run_entry_blind : {own : Option (List ℕ)} (ev : Evals) (path : List ℕ) (e : LabelledEntry) → BlindEvals own ev → IsBlind own {A = Value} (run_entry ev path e)
+pub run_entry_blind : {own : Option (List ℕ)} (ev : Evals) (path : List ℕ) (e : LabelledEntry) → BlindEvals own ev → IsBlind {A = Value} own (run_entry ev path e)
 run_entry_blind ev path e h = search (blinding, source_blind, code_of_blind) depth 12
 
-pub missing_blind : {own : Option (List ℕ)} (kind : Import) → IsBlind own {A = Value} (missing kind)
+pub missing_blind : {own : Option (List ℕ)} (kind : Import) → IsBlind {A = Value} own (missing kind)
 missing_blind kind = search blinding depth 12
 
-pub run_found_blind : {own : Option (List ℕ)} (ev : Evals) (kind : Import) (path : List ℕ) (a3 : Option LabelledEntry) → BlindEvals own ev → IsBlind own {A = Value} (run_found ev kind path a3)
+pub run_found_blind : {own : Option (List ℕ)} (ev : Evals) (kind : Import) (path : List ℕ) (a3 : Option LabelledEntry) → BlindEvals own ev → IsBlind {A = Value} own (run_found ev kind path a3)
 run_found_blind ev kind path (Some e) h = search (blinding, run_entry_blind) depth 12
 run_found_blind ev kind path None h = search (blinding, missing_blind) depth 12
 
-pub run_path_blind : {own : Option (List ℕ)} (ev : Evals) (kind : Import) (path : List ℕ) → is_of_other own path ≡ false → BlindEvals own ev → IsBlind own {A = Value} (run_path ev kind path)
+pub run_path_blind : {own : Option (List ℕ)} (ev : Evals) (kind : Import) (path : List ℕ) → is_of_other own path ≡ false → BlindEvals own ev → IsBlind {A = Value} own (run_path ev kind path)
 run_path_blind ev kind path k h = search (blinding, run_found_blind, blind_read) depth 12
 
-pub import_named_blind : {own : Option (List ℕ)} (ev : Evals) (kind : Import) (t : LabelledText) → BlindEvals own ev → IsBlind own {A = Value} (import_named ev kind t)
+pub import_named_blind : {own : Option (List ℕ)} (ev : Evals) (kind : Import) (t : LabelledText) → BlindEvals own ev → IsBlind {A = Value} own (import_named ev kind t)
 import_named_blind ev kind t h =
     blind_bind _ _ (charge_text_blind (text t)) (λ u. at_lawful_blind (bytes_of t) _ (λ k. run_path_blind ev kind (bytes_of t) (lawful_seen _ (bytes_of t) k) h))
 
-pub import_value_blind : {own : Option (List ℕ)} (ev : Evals) (kind : Import) (v : Value) → BlindEvals own ev → IsBlind own {A = Value} (import_value ev kind v)
+pub import_value_blind : {own : Option (List ℕ)} (ev : Evals) (kind : Import) (v : Value) → BlindEvals own ev → IsBlind {A = Value} own (import_value ev kind v)
 import_value_blind ev kind v h = search (blinding, import_named_blind) depth 12

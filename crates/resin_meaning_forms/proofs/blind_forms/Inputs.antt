@@ -22,23 +22,23 @@ use Rattle.resin_meaning_forms.specs.Blindness.{IsBlind}
 use Rattle.resin_meaning_forms.proofs.Blindness.{BlindEvals, blinding}
 use Rattle.resin_meaning_forms.proofs.blind_forms.Reading.{read_through_blind}
 
-pub filtered_text_blind : {own : Option (List ℕ)} (ev : Evals) (context : Value) (t : Tree) → BlindEvals own ev → IsBlind own {A = Tree} (filtered_text ev context t)
+pub filtered_text_blind : {own : Option (List ℕ)} (ev : Evals) (context : Value) (t : Tree) → BlindEvals own ev → IsBlind {A = Tree} own (filtered_text ev context t)
 filtered_text_blind ev context (text t) h = search (blinding, read_through_blind) depth 12
 filtered_text_blind ev context t h = search blinding depth 12
 
-pub filtered_entries_blind : {own : Option (List ℕ)} (filter : (Key → Tree → Prog Tree)) (a1 : EntryList) (a : Array) → ((x0 : Key) (x1 : Tree) → IsBlind own (filter x0 x1)) → IsBlind own {A = Array} (filtered_entries filter a1 a)
+pub filtered_entries_blind : {own : Option (List ℕ)} (filter : (Key → Tree → Prog Tree)) (a1 : EntryList) (a : Array) → ((x0 : Key) (x1 : Tree) → IsBlind own (filter x0 x1)) → IsBlind {A = Array} own (filtered_entries filter a1 a)
 filtered_entries_blind filter [] a h_filter = search blinding depth 12
 filtered_entries_blind filter (e ∷ es) a h_filter = let ih = λ (y2 : Array). filtered_entries_blind filter es y2 h_filter in search (blinding, ih) depth 12
 
-pub filtered_texts_blind : {own : Option (List ℕ)} (ev : Evals) (context : Value) (a : Array) → BlindEvals own ev → IsBlind own {A = Array} (filtered_texts ev context a)
+pub filtered_texts_blind : {own : Option (List ℕ)} (ev : Evals) (context : Value) (a : Array) → BlindEvals own ev → IsBlind {A = Array} own (filtered_texts ev context a)
 filtered_texts_blind ev context a h = search (blinding, filtered_text_blind, filtered_entries_blind) depth 12
 
-pub filtered_input_blind : {own : Option (List ℕ)} (ev : Evals) (name : List ℕ) (key : Key) (t : Tree) → BlindEvals own ev → IsBlind own {A = Tree} (filtered_input ev name key t)
+pub filtered_input_blind : {own : Option (List ℕ)} (ev : Evals) (name : List ℕ) (key : Key) (t : Tree) → BlindEvals own ev → IsBlind {A = Tree} own (filtered_input ev name key t)
 filtered_input_blind ev name key (array r l h) h = search (blinding, filtered_texts_blind) depth 12
 filtered_input_blind ev name key t h = search (blinding, filtered_text_blind) depth 12
 
-pub filtered_array_blind : {own : Option (List ℕ)} (ev : Evals) (name : List ℕ) (a : Array) → BlindEvals own ev → IsBlind own {A = Array} (filtered_array ev name a)
+pub filtered_array_blind : {own : Option (List ℕ)} (ev : Evals) (name : List ℕ) (a : Array) → BlindEvals own ev → IsBlind {A = Array} own (filtered_array ev name a)
 filtered_array_blind ev name a h = search (blinding, filtered_entries_blind, filtered_input_blind) depth 12
 
-pub set_inputs_blind : {own : Option (List ℕ)} (ev : Evals) (get : Array) (post : Array) (cookie : Array) (server : Array) → BlindEvals own ev → IsBlind own {A = (Unit {0})} (set_inputs ev get post cookie server)
+pub set_inputs_blind : {own : Option (List ℕ)} (ev : Evals) (get : Array) (post : Array) (cookie : Array) (server : Array) → BlindEvals own ev → IsBlind {A = (Unit {0})} own (set_inputs ev get post cookie server)
 set_inputs_blind ev get post cookie server h = search (blinding, filtered_array_blind) depth 12

@@ -40,26 +40,26 @@ use Rattle.resin_meaning_forms.specs.Invoke.{constant_of, literal_of, ItemValue,
 use Rattle.resin_meaning_forms.specs.Blindness.{IsBlind}
 use Rattle.resin_meaning_forms.proofs.Blindness.{blind_bind, BlindEvals, blinding}
 
-pub constant_program_blind : {own : Option (List ℕ)} (c : Constant) → IsBlind own {A = Value} (constant_program c)
+pub constant_program_blind : {own : Option (List ℕ)} (c : Constant) → IsBlind {A = Value} own (constant_program c)
 constant_program_blind c = search blinding depth 12
 
-pub default_value_blind : {own : Option (List ℕ)} (a0 : Option Constant) → IsBlind own {A = Value} (default_value a0)
+pub default_value_blind : {own : Option (List ℕ)} (a0 : Option Constant) → IsBlind {A = Value} own (default_value a0)
 default_value_blind None = search blinding depth 12
 default_value_blind (Some c) = search (blinding, constant_program_blind) depth 12
 
-pub argument_for_blind : {own : Option (List ℕ)} (p : Parameter) (a1 : Option Value) → IsBlind own {A = Value} (argument_for p a1)
+pub argument_for_blind : {own : Option (List ℕ)} (p : Parameter) (a1 : Option Value) → IsBlind {A = Value} own (argument_for p a1)
 argument_for_blind p (Some v) = search blinding depth 12
 argument_for_blind p None = search (blinding, default_value_blind) depth 12
 
-pub bind_blind : {own : Option (List ℕ)} (a0 : List Parameter) (vs : List Value) → IsBlind own {A = (Unit {0})} (bind a0 vs)
+pub bind_blind : {own : Option (List ℕ)} (a0 : List Parameter) (vs : List Value) → IsBlind {A = (Unit {0})} own (bind a0 vs)
 bind_blind [] vs = search blinding depth 12
 bind_blind (p ∷ ps) vs = let ih = λ (y1 : List Value). bind_blind ps y1 in search (blinding, argument_for_blind, ih) depth 12
 
-pub block_blind : {own : Option (List ℕ)} (ev : Evals) (a1 : List Stmt) → BlindEvals own ev → IsBlind own {A = Course} (block ev a1)
+pub block_blind : {own : Option (List ℕ)} (ev : Evals) (a1 : List Stmt) → BlindEvals own ev → IsBlind {A = Course} own (block ev a1)
 block_blind ev [] h = search blinding depth 12
-block_blind ev (s ∷ ss) h = let ih = block_blind ev ss h in blind_bind _ _ (search (blinding, h.stmt) depth 12) (λ x. elim x as (λ y. IsBlind own {A = Course} (elim y [ Next ↦ block ev ss | Break ↦ give Break | Continue ↦ give Continue | Return v ↦ give (Return v) ])) [ Next ↦ search (blinding, h.stmt) depth 12 | Break ↦ search (blinding, h.stmt) depth 12 | Continue ↦ search (blinding, h.stmt) depth 12 | Return v ↦ search (blinding, h.stmt) depth 12 ])
+block_blind {own = own} ev (s ∷ ss) h = let ih = block_blind ev ss h in blind_bind _ _ (search (blinding, h.stmt) depth 12) (λ x. elim x as (λ y. IsBlind {A = Course} own (elim y [ Next ↦ block ev ss | Break ↦ give Break | Continue ↦ give Continue | Return v ↦ give (Return v) ])) [ Next ↦ search (blinding, h.stmt) depth 12 | Break ↦ search (blinding, h.stmt) depth 12 | Continue ↦ search (blinding, h.stmt) depth 12 | Return v ↦ search (blinding, h.stmt) depth 12 ])
 
-pub own_body_blind : {own : Option (List ℕ)} (a0 : PreludeMethod) (this : ℕ) → IsBlind own {A = Value} (own_body a0 this)
+pub own_body_blind : {own : Option (List ℕ)} (a0 : PreludeMethod) (this : ℕ) → IsBlind {A = Value} own (own_body a0 this)
 own_body_blind Construct this = search blinding depth 12
 own_body_blind GetMessage this = search blinding depth 12
 own_body_blind GetCode this = search blinding depth 12
@@ -70,31 +70,31 @@ own_body_blind FilterRead this = search blinding depth 12
 own_body_blind FilterWrite this = search blinding depth 12
 own_body_blind FilterFunction this = search blinding depth 12
 
-pub script_body_blind : {own : Option (List ℕ)} (ev : Evals) (f : Function) → BlindEvals own ev → IsBlind own {A = Value} (script_body ev f)
+pub script_body_blind : {own : Option (List ℕ)} (ev : Evals) (f : Function) → BlindEvals own ev → IsBlind {A = Value} own (script_body ev f)
 script_body_blind ev f h = search (blinding, block_blind) depth 12
 
-pub bound_body_blind : {own : Option (List ℕ)} (ev : Evals) (f : Function) (vs : List Value) → BlindEvals own ev → IsBlind own {A = Value} (bound_body ev f vs)
+pub bound_body_blind : {own : Option (List ℕ)} (ev : Evals) (f : Function) (vs : List Value) → BlindEvals own ev → IsBlind {A = Value} own (bound_body ev f vs)
 bound_body_blind ev f vs h = search (blinding, bind_blind, script_body_blind) depth 12
 
-pub method_body_blind : {own : Option (List ℕ)} (ev : Evals) (a1 : Option PreludeMethod) (f : Function) (this : ℕ) → BlindEvals own ev → IsBlind own {A = Value} (method_body ev a1 f this)
+pub method_body_blind : {own : Option (List ℕ)} (ev : Evals) (a1 : Option PreludeMethod) (f : Function) (this : ℕ) → BlindEvals own ev → IsBlind {A = Value} own (method_body ev a1 f this)
 method_body_blind ev (Some own) f this h = search (blinding, own_body_blind) depth 12
 method_body_blind ev None f this h = search (blinding, script_body_blind) depth 12
 
-pub call_script_blind : {own : Option (List ℕ)} (ev : Evals) (f : Function) (vs : List Value) → BlindEvals own ev → IsBlind own {A = Value} (call_script ev f vs)
+pub call_script_blind : {own : Option (List ℕ)} (ev : Evals) (f : Function) (vs : List Value) → BlindEvals own ev → IsBlind {A = Value} own (call_script ev f vs)
 call_script_blind ev f vs h = search (blinding, bound_body_blind) depth 12
 
-pub bound_method_blind : {own : Option (List ℕ)} (ev : Evals) (at : MethodAt) (f : Function) (this : ℕ) (vs : List Value) → BlindEvals own ev → IsBlind own {A = Value} (bound_method ev at f this vs)
+pub bound_method_blind : {own : Option (List ℕ)} (ev : Evals) (at : MethodAt) (f : Function) (this : ℕ) (vs : List Value) → BlindEvals own ev → IsBlind {A = Value} own (bound_method ev at f this vs)
 bound_method_blind ev at f this vs h = search (blinding, bind_blind, method_body_blind) depth 12
 
-pub run_method_blind : {own : Option (List ℕ)} (ev : Evals) (at : MethodAt) (f : Function) (this : ℕ) (vs : List Value) → BlindEvals own ev → IsBlind own {A = Value} (run_method ev at f this vs)
+pub run_method_blind : {own : Option (List ℕ)} (ev : Evals) (at : MethodAt) (f : Function) (this : ℕ) (vs : List Value) → BlindEvals own ev → IsBlind {A = Value} own (run_method ev at f this vs)
 run_method_blind ev at f this vs h = search (blinding, bound_method_blind) depth 12
 
-pub or_undefined_blind : {own : Option (List ℕ)} (a0 : Option Method) → IsBlind own {A = Method} (or_undefined a0)
+pub or_undefined_blind : {own : Option (List ℕ)} (a0 : Option Method) → IsBlind {A = Method} own (or_undefined a0)
 or_undefined_blind (Some found) = search blinding depth 12
 or_undefined_blind None = search blinding depth 12
 
-pub find_method_blind : {own : Option (List ℕ)} (class : ℕ) (name : List ℕ) → IsBlind own {A = Method} (find_method class name)
+pub find_method_blind : {own : Option (List ℕ)} (class : ℕ) (name : List ℕ) → IsBlind {A = Method} own (find_method class name)
 find_method_blind class name = search (blinding, or_undefined_blind) depth 12
 
-pub call_object_blind : {own : Option (List ℕ)} (ev : Evals) (o : ℕ) (name : List ℕ) (vs : List Value) → BlindEvals own ev → IsBlind own {A = Value} (call_object ev o name vs)
+pub call_object_blind : {own : Option (List ℕ)} (ev : Evals) (o : ℕ) (name : List ℕ) (vs : List Value) → BlindEvals own ev → IsBlind {A = Value} own (call_object ev o name vs)
 call_object_blind ev o name vs h = search (blinding, run_method_blind, find_method_blind) depth 12

@@ -30,44 +30,44 @@ use Rattle.resin_meaning_forms.specs.Keeping.{frozen_policy, each_of, frozen_set
 use Rattle.resin_meaning_forms.specs.Blindness.{IsBlind}
 use Rattle.resin_meaning_forms.proofs.Blindness.{blinding}
 
-pub or_not_storable_blind : {own : Option (List ℕ)} (a0 : Option Marks) → IsBlind own {A = Marks} (or_not_storable a0)
+pub or_not_storable_blind : {own : Option (List ℕ)} (a0 : Option Marks) → IsBlind {A = Marks} own (or_not_storable a0)
 or_not_storable_blind (Some v) = search blinding depth 12
 or_not_storable_blind None = search blinding depth 12
 
-pub freeze_text_blind : {own : Option (List ℕ)} (t : LabelledText) → IsBlind own {A = Marks} (freeze_text t)
+pub freeze_text_blind : {own : Option (List ℕ)} (t : LabelledText) → IsBlind {A = Marks} own (freeze_text t)
 freeze_text_blind t = search (blinding, or_not_storable_blind) depth 12
 
-pub set_fields_blind : {own : Option (List ℕ)} (o : ℕ) (a1 : EntryList) → IsBlind own {A = (Unit {0})} (set_fields o a1)
+pub set_fields_blind : {own : Option (List ℕ)} (o : ℕ) (a1 : EntryList) → IsBlind {A = (Unit {0})} own (set_fields o a1)
 set_fields_blind o [] = search blinding depth 12
 set_fields_blind o (e ∷ es) = let ih = set_fields_blind o es in search blinding depth 12
 
-pub make_policy_blind : {own : Option (List ℕ)} (class : ℕ) (fields : EntryList) → IsBlind own {A = ℕ} (make_policy class fields)
+pub make_policy_blind : {own : Option (List ℕ)} (class : ℕ) (fields : EntryList) → IsBlind {A = ℕ} own (make_policy class fields)
 make_policy_blind class fields = search (blinding, set_fields_blind) depth 12
 
-pub make_lost_blind : {own : Option (List ℕ)} (name : List ℕ) (fields : Array) → IsBlind own {A = ℕ} (make_lost name fields)
+pub make_lost_blind : {own : Option (List ℕ)} (name : List ℕ) (fields : Array) → IsBlind {A = ℕ} own (make_lost name fields)
 make_lost_blind name fields = search blinding depth 12
 
-pub remade_blind : {own : Option (List ℕ)} (p : Said) (a1 : Option ℕ) → IsBlind own {A = ℕ} (remade p a1)
+pub remade_blind : {own : Option (List ℕ)} (p : Said) (a1 : Option ℕ) → IsBlind {A = ℕ} own (remade p a1)
 remade_blind p (Some class) = search (blinding, make_policy_blind) depth 12
 remade_blind p None = search (blinding, make_lost_blind) depth 12
 
-pub thaw_said_blind : {own : Option (List ℕ)} (a0 : Option Said) → IsBlind own {A = ℕ} (thaw_said a0)
+pub thaw_said_blind : {own : Option (List ℕ)} (a0 : Option Said) → IsBlind {A = ℕ} own (thaw_said a0)
 thaw_said_blind (Some p) = search (blinding, remade_blind) depth 12
 thaw_said_blind None = search blinding depth 12
 
-pub thaw_policy_blind : {own : Option (List ℕ)} (a0 : List ℕ) → IsBlind own {A = ℕ} (thaw_policy a0)
+pub thaw_policy_blind : {own : Option (List ℕ)} (a0 : List ℕ) → IsBlind {A = ℕ} own (thaw_policy a0)
 thaw_policy_blind text = search (blinding, thaw_said_blind) depth 12
 
-pub thaw_policies_blind : {own : Option (List ℕ)} (so_far : List ℕ) (a1 : List (List ℕ)) → IsBlind own {A = (List ℕ)} (thaw_policies so_far a1)
+pub thaw_policies_blind : {own : Option (List ℕ)} (so_far : List ℕ) (a1 : List (List ℕ)) → IsBlind {A = (List ℕ)} own (thaw_policies so_far a1)
 thaw_policies_blind so_far [] = search blinding depth 12
 thaw_policies_blind so_far (t ∷ ts) = let ih = λ (y0 : List ℕ). thaw_policies_blind y0 ts in search (blinding, thaw_policy_blind, ih) depth 12
 
-pub thaw_marked_blind : {own : Option (List ℕ)} (d : Marked) → IsBlind own {A = LabelledText} (thaw_marked d)
+pub thaw_marked_blind : {own : Option (List ℕ)} (d : Marked) → IsBlind {A = LabelledText} own (thaw_marked d)
 thaw_marked_blind d = search (blinding, thaw_policies_blind) depth 12
 
-pub thaw_short_blind : {own : Option (List ℕ)} (a0 : LabelledEntry) → IsBlind own {A = LabelledText} (thaw_short a0)
+pub thaw_short_blind : {own : Option (List ℕ)} (a0 : LabelledEntry) → IsBlind {A = LabelledText} own (thaw_short a0)
 thaw_short_blind (Good d version) = search (blinding, thaw_marked_blind) depth 12
 thaw_short_blind (Bad bytes shadow) = search blinding depth 12
 
-pub thaw_entry_blind : {own : Option (List ℕ)} (e : LabelledEntry) → IsBlind own {A = LabelledText} (thaw_entry e)
+pub thaw_entry_blind : {own : Option (List ℕ)} (e : LabelledEntry) → IsBlind {A = LabelledText} own (thaw_entry e)
 thaw_entry_blind e = search (blinding, thaw_short_blind) depth 12

@@ -18,9 +18,9 @@ use Rattle.resin_meaning_forms.specs.Names.{state_names, channel_names, named_in
 use Rattle.resin_meaning_forms.specs.Blindness.{IsBlind}
 use Rattle.resin_meaning_forms.proofs.Blindness.{blinding}
 
-pub or_unknown_blind : {own : Option (List ℕ)} (a0 : Option Callee) → IsBlind own {A = Callee} (or_unknown a0)
+pub or_unknown_blind : {own : Option (List ℕ)} (a0 : Option Callee) → IsBlind {A = Callee} own (or_unknown a0)
 or_unknown_blind (Some callee) = search blinding depth 12
 or_unknown_blind None = search blinding depth 12
 
-pub find_callee_blind : {own : Option (List ℕ)} (name : List ℕ) → IsBlind own {A = Callee} (find_callee name)
+pub find_callee_blind : {own : Option (List ℕ)} (name : List ℕ) → IsBlind {A = Callee} own (find_callee name)
 find_callee_blind name = search (blinding, or_unknown_blind) depth 12

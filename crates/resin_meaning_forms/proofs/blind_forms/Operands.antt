@@ -13,14 +13,14 @@ use Rattle.resin_meaning_forms.specs.Operands.{is_nothing, keyed, index_of, soft
 use Rattle.resin_meaning_forms.specs.Blindness.{IsBlind}
 use Rattle.resin_meaning_forms.proofs.Blindness.{blinding}
 
-pub keyed_blind : {own : Option (List ℕ)} (k : Value) → IsBlind own {A = Key} (keyed k)
+pub keyed_blind : {own : Option (List ℕ)} (k : Value) → IsBlind {A = Key} own (keyed k)
 keyed_blind k = search blinding depth 12
 
-pub index_of_blind : {own : Option (List ℕ)} (v : Value) (k : Value) → IsBlind own {A = Value} (index_of v k)
+pub index_of_blind : {own : Option (List ℕ)} (v : Value) (k : Value) → IsBlind {A = Value} own (index_of v k)
 index_of_blind v k = search blinding depth 12
 
-pub soft_index_of_blind : {own : Option (List ℕ)} (v : Value) (k : Value) → IsBlind own {A = Value} (soft_index_of v k)
+pub soft_index_of_blind : {own : Option (List ℕ)} (v : Value) (k : Value) → IsBlind {A = Value} own (soft_index_of v k)
 soft_index_of_blind v k = search blinding depth 12
 
-pub property_of_blind : {own : Option (List ℕ)} (v : Value) (p : List ℕ) → IsBlind own {A = Value} (property_of v p)
+pub property_of_blind : {own : Option (List ℕ)} (v : Value) (p : List ℕ) → IsBlind {A = Value} own (property_of v p)
 property_of_blind v p = search blinding depth 12

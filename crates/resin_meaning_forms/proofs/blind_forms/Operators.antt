@@ -44,17 +44,17 @@ use Rattle.resin_meaning_forms.proofs.Blindness.{BlindEvals, blinding}
 use Rattle.resin_meaning_forms.proofs.blind_forms.Merges.{folded_blind, merge_blind}
 use Rattle.resin_meaning_forms.proofs.blind_forms.Parts.{charge_both_blind, charge_text_blind, given_blind}
 
-pub set_of_number_blind : {own : Option (List ℕ)} (ev : Evals) (t : Tree) → BlindEvals own ev → IsBlind own {A = NumberSet} (set_of_number ev t)
+pub set_of_number_blind : {own : Option (List ℕ)} (ev : Evals) (t : Tree) → BlindEvals own ev → IsBlind {A = NumberSet} own (set_of_number ev t)
 set_of_number_blind ev (text t) h = search (blinding, folded_blind) depth 12
 set_of_number_blind ev t h = search blinding depth 12
 
-pub concatenated_blind : {own : Option (List ℕ)} (x : Tree) (y : Tree) → IsBlind own {A = Value} (concatenated x y)
+pub concatenated_blind : {own : Option (List ℕ)} (x : Tree) (y : Tree) → IsBlind {A = Value} own (concatenated x y)
 concatenated_blind x y = search (blinding, given_blind) depth 12
 
-pub calculated_blind : {own : Option (List ℕ)} (ev : Evals) (op : Arith) (x : Tree) (y : Tree) → BlindEvals own ev → IsBlind own {A = Value} (calculated ev op x y)
+pub calculated_blind : {own : Option (List ℕ)} (ev : Evals) (op : Arith) (x : Tree) (y : Tree) → BlindEvals own ev → IsBlind {A = Value} own (calculated ev op x y)
 calculated_blind ev op x y h = search (blinding, merge_blind, set_of_number_blind) depth 12
 
-pub combined_by_blind : {own : Option (List ℕ)} (ev : Evals) (a1 : Combining) (x : Tree) (y : Tree) → BlindEvals own ev → IsBlind own {A = Value} (combined_by ev a1 x y)
+pub combined_by_blind : {own : Option (List ℕ)} (ev : Evals) (a1 : Combining) (x : Tree) (y : Tree) → BlindEvals own ev → IsBlind {A = Value} own (combined_by ev a1 x y)
 combined_by_blind ev Multiply x y h = search (blinding, calculated_blind) depth 12
 combined_by_blind ev Divide x y h = search (blinding, calculated_blind) depth 12
 combined_by_blind ev Remainder x y h = search (blinding, calculated_blind) depth 12
@@ -62,13 +62,13 @@ combined_by_blind ev Add x y h = search (blinding, calculated_blind) depth 12
 combined_by_blind ev Subtract x y h = search (blinding, calculated_blind) depth 12
 combined_by_blind ev Concat x y h = search (blinding, concatenated_blind) depth 12
 
-pub combined_blind : {own : Option (List ℕ)} (ev : Evals) (op : Combining) (x : Value) (y : Value) → BlindEvals own ev → IsBlind own {A = Value} (combined ev op x y)
+pub combined_blind : {own : Option (List ℕ)} (ev : Evals) (op : Combining) (x : Value) (y : Value) → BlindEvals own ev → IsBlind {A = Value} own (combined ev op x y)
 combined_blind ev op x y h = search (blinding, charge_both_blind, combined_by_blind) depth 12
 
-pub signed_blind : {own : Option (List ℕ)} (ev : Evals) (x : Tree) (number : Result ℤ CallStop) → BlindEvals own ev → IsBlind own {A = Value} (signed ev x number)
+pub signed_blind : {own : Option (List ℕ)} (ev : Evals) (x : Tree) (number : Result ℤ CallStop) → BlindEvals own ev → IsBlind {A = Value} own (signed ev x number)
 signed_blind ev x number h = search (blinding, set_of_number_blind) depth 12
 
-pub applied_blind : {own : Option (List ℕ)} (ev : Evals) (a1 : Unary) (x : Tree) → BlindEvals own ev → IsBlind own {A = Value} (applied ev a1 x)
+pub applied_blind : {own : Option (List ℕ)} (ev : Evals) (a1 : Unary) (x : Tree) → BlindEvals own ev → IsBlind {A = Value} own (applied ev a1 x)
 applied_blind ev sign.Minus x h = search (blinding, signed_blind) depth 12
 applied_blind ev sign.Plus x h = search (blinding, signed_blind) depth 12
 applied_blind ev sign.Not x h = search blinding depth 12
@@ -76,19 +76,19 @@ applied_blind ev sign.ToInt x h = search (blinding, signed_blind) depth 12
 applied_blind ev sign.ToText x h = search (blinding, given_blind) depth 12
 applied_blind ev sign.ToBool x h = search blinding depth 12
 
-pub unary_blind : {own : Option (List ℕ)} (ev : Evals) (op : Unary) (x : Value) → BlindEvals own ev → IsBlind own {A = Value} (unary ev op x)
+pub unary_blind : {own : Option (List ℕ)} (ev : Evals) (op : Unary) (x : Value) → BlindEvals own ev → IsBlind {A = Value} own (unary ev op x)
 unary_blind ev op x h = search (blinding, charge_text_blind, applied_blind) depth 12
 
-pub equal_blind : {own : Option (List ℕ)} (x : Tree) (y : Tree) → IsBlind own {A = Bool} (equal x y)
+pub equal_blind : {own : Option (List ℕ)} (x : Tree) (y : Tree) → IsBlind {A = Bool} own (equal x y)
 equal_blind x y = search blinding depth 12
 
-pub identical_blind : {own : Option (List ℕ)} (x : Tree) (y : Tree) → IsBlind own {A = Bool} (identical x y)
+pub identical_blind : {own : Option (List ℕ)} (x : Tree) (y : Tree) → IsBlind {A = Bool} own (identical x y)
 identical_blind x y = search blinding depth 12
 
-pub order_blind : {own : Option (List ℕ)} (x : Tree) (y : Tree) → IsBlind own {A = Ordering} (order x y)
+pub order_blind : {own : Option (List ℕ)} (x : Tree) (y : Tree) → IsBlind {A = Ordering} own (order x y)
 order_blind x y = search blinding depth 12
 
-pub compared_by_blind : {own : Option (List ℕ)} (a0 : Comparison) (x : Tree) (y : Tree) → IsBlind own {A = Value} (compared_by a0 x y)
+pub compared_by_blind : {own : Option (List ℕ)} (a0 : Comparison) (x : Tree) (y : Tree) → IsBlind {A = Value} own (compared_by a0 x y)
 compared_by_blind Less x y = search (blinding, order_blind) depth 12
 compared_by_blind LessOrEqual x y = search (blinding, order_blind) depth 12
 compared_by_blind Greater x y = search (blinding, order_blind) depth 12
@@ -99,8 +99,8 @@ compared_by_blind Identical x y = search (blinding, identical_blind) depth 12
 compared_by_blind NotIdentical x y = search (blinding, identical_blind) depth 12
 compared_by_blind Compare x y = search (blinding, order_blind) depth 12
 
-pub compared_blind : {own : Option (List ℕ)} (op : Comparison) (x : Value) (y : Value) → IsBlind own {A = Value} (compared op x y)
+pub compared_blind : {own : Option (List ℕ)} (op : Comparison) (x : Value) (y : Value) → IsBlind {A = Value} own (compared op x y)
 compared_blind op x y = search (blinding, charge_both_blind, compared_by_blind) depth 12
 
-pub instance_of_blind : {own : Option (List ℕ)} (name : List ℕ) (x : Value) → IsBlind own {A = Value} (instance_of name x)
+pub instance_of_blind : {own : Option (List ℕ)} (name : List ℕ) (x : Value) → IsBlind {A = Value} own (instance_of name x)
 instance_of_blind name x = search (blinding, charge_text_blind) depth 12

@@ -19,15 +19,15 @@ use Rattle.resin_meaning_forms.specs.Parts.{◌>>◌, looked, computed, faulted,
 use Rattle.resin_meaning_forms.specs.Blindness.{IsBlind}
 use Rattle.resin_meaning_forms.proofs.Blindness.{blinding}
 
-pub charge_text_blind : {own : Option (List ℕ)} (t : Tree) → IsBlind own {A = (Unit {0})} (charge_text t)
+pub charge_text_blind : {own : Option (List ℕ)} (t : Tree) → IsBlind {A = (Unit {0})} own (charge_text t)
 charge_text_blind t = search blinding depth 12
 
-pub charge_both_blind : {own : Option (List ℕ)} (t : Tree) (u : Tree) → IsBlind own {A = (Unit {0})} (charge_both t u)
+pub charge_both_blind : {own : Option (List ℕ)} (t : Tree) (u : Tree) → IsBlind {A = (Unit {0})} own (charge_both t u)
 charge_both_blind t u = search (blinding, charge_text_blind) depth 12
 
-pub charged_blind : {own : Option (List ℕ)} (a0 : List Tree) → IsBlind own {A = (Unit {0})} (charged a0)
+pub charged_blind : {own : Option (List ℕ)} (a0 : List Tree) → IsBlind {A = (Unit {0})} own (charged a0)
 charged_blind [] = search blinding depth 12
 charged_blind (t ∷ ts) = let ih = charged_blind ts in search (blinding, charge_text_blind) depth 12
 
-pub given_blind : {own : Option (List ℕ)} (t : Tree) → IsBlind own {A = Value} (given t)
+pub given_blind : {own : Option (List ℕ)} (t : Tree) → IsBlind {A = Value} own (given t)
 given_blind t = search (blinding, charge_text_blind) depth 12

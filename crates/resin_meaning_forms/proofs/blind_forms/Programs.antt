@@ -26,7 +26,7 @@ use Rattle.resin_meaning_forms.proofs.blind_forms.Sources.{file_blind}
 use Rattle.resin_meaning_forms.proofs.blind_forms.Calls.{call_named_blind}
 use Rattle.resin_meaning_forms.proofs.blind_forms.Expressions.{expr_form_blind, soft_form_blind}
 
-pub ticked_form_blind : {own : Option (List ℕ)} (ev : Evals) (k : StmtKind) → BlindEvals own ev → IsBlind own {A = Course} (ticked_form ev k)
+pub ticked_form_blind : {own : Option (List ℕ)} (ev : Evals) (k : StmtKind) → BlindEvals own ev → IsBlind {A = Course} own (ticked_form ev k)
 ticked_form_blind ev k h = search (blinding, stmt_form_blind) depth 12
 
 -- one induction on the room
@@ -39,8 +39,8 @@ evals_blind (suc room) = let ih = evals_blind room in record {
   stmt = λ s. search (blinding, ticked_form_blind) depth 12;
 }
 
-pub program_blind : {own : Option (List ℕ)} (p : Program) → IsBlind own {A = Flow} (program p)
+pub program_blind : {own : Option (List ℕ)} (p : Program) → IsBlind {A = Flow} own (program p)
 program_blind p = blind_then (file (evals most_open) p) (λ r. ended (program_end r)) (file_blind (evals most_open) p (evals_blind most_open)) (λ r. blind_ended (program_end r))
 
-pub function_call_blind : {own : Option (List ℕ)} (name : List ℕ) (vs : List Value) → IsBlind own {A = Value} (function_call name vs)
+pub function_call_blind : {own : Option (List ℕ)} (name : List ℕ) (vs : List Value) → IsBlind {A = Value} own (function_call name vs)
 function_call_blind name vs = search (blinding, call_named_blind, evals_blind) depth 12

@@ -22,14 +22,14 @@ use Rattle.resin_meaning_forms.proofs.blind_forms.Invoke.{call_object_blind}
 use Rattle.resin_meaning_forms.proofs.blind_forms.Writes.{text_answer_blind}
 use Rattle.resin_meaning_forms.proofs.blind_forms.LeavingWrites.{ask_filters_blind}
 
-pub filter_by_blind : {own : Option (List ℕ)} (ev : Evals) (method : List ℕ) (context : Value) (f : ℕ) (t : LabelledText) → BlindEvals own ev → IsBlind own {A = LabelledText} (filter_by ev method context f t)
+pub filter_by_blind : {own : Option (List ℕ)} (ev : Evals) (method : List ℕ) (context : Value) (f : ℕ) (t : LabelledText) → BlindEvals own ev → IsBlind {A = LabelledText} own (filter_by ev method context f t)
 filter_by_blind ev method context f t h = search (blinding, call_object_blind, text_answer_blind) depth 12
 
-pub pass_filters_blind : {own : Option (List ℕ)} (filter : (ℕ → LabelledText → Prog LabelledText)) (c : Channel) (t : LabelledText) → ((x0 : ℕ) (x1 : LabelledText) → IsBlind own (filter x0 x1)) → IsBlind own {A = LabelledText} (pass_filters filter c t)
+pub pass_filters_blind : {own : Option (List ℕ)} (filter : (ℕ → LabelledText → Prog LabelledText)) (c : Channel) (t : LabelledText) → ((x0 : ℕ) (x1 : LabelledText) → IsBlind own (filter x0 x1)) → IsBlind {A = LabelledText} own (pass_filters filter c t)
 pass_filters_blind filter c t h_filter = search (blinding, ask_filters_blind) depth 12
 
-pub read_through_blind : {own : Option (List ℕ)} (ev : Evals) (c : Channel) (context : Value) (t : LabelledText) → BlindEvals own ev → IsBlind own {A = LabelledText} (read_through ev c context t)
+pub read_through_blind : {own : Option (List ℕ)} (ev : Evals) (c : Channel) (context : Value) (t : LabelledText) → BlindEvals own ev → IsBlind {A = LabelledText} own (read_through ev c context t)
 read_through_blind ev c context t h = search (blinding, filter_by_blind, pass_filters_blind) depth 12
 
-pub keep_through_blind : {own : Option (List ℕ)} (ev : Evals) (c : Channel) (context : Value) (t : LabelledText) → BlindEvals own ev → IsBlind own {A = LabelledText} (keep_through ev c context t)
+pub keep_through_blind : {own : Option (List ℕ)} (ev : Evals) (c : Channel) (context : Value) (t : LabelledText) → BlindEvals own ev → IsBlind {A = LabelledText} own (keep_through ev c context t)
 keep_through_blind ev c context t h = search (blinding, filter_by_blind, pass_filters_blind) depth 12

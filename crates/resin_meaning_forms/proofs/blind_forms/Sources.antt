@@ -23,30 +23,30 @@ use Rattle.resin_meaning_forms.specs.Blindness.{IsBlind}
 use Rattle.resin_meaning_forms.proofs.Blindness.{BlindEvals, blinding}
 use Rattle.resin_meaning_forms.proofs.blind_forms.Invoke.{block_blind}
 
-pub declare_new_blind : {own : Option (List ℕ)} (f : Function) → IsBlind own {A = (Unit {0})} (declare_new f)
+pub declare_new_blind : {own : Option (List ℕ)} (f : Function) → IsBlind {A = (Unit {0})} own (declare_new f)
 declare_new_blind f = search blinding depth 12
 
-pub declare_blind : {own : Option (List ℕ)} (a0 : Item) → IsBlind own {A = (Unit {0})} (declare a0)
+pub declare_blind : {own : Option (List ℕ)} (a0 : Item) → IsBlind {A = (Unit {0})} own (declare a0)
 declare_blind (item.Function f) = search (blinding, declare_new_blind) depth 12
 declare_blind (item.Class d) = search blinding depth 12
 declare_blind (item.Statement s) = search blinding depth 12
 
-pub declare_all_blind : {own : Option (List ℕ)} (a0 : List Item) → IsBlind own {A = (Unit {0})} (declare_all a0)
+pub declare_all_blind : {own : Option (List ℕ)} (a0 : List Item) → IsBlind {A = (Unit {0})} own (declare_all a0)
 declare_all_blind [] = search blinding depth 12
 declare_all_blind (i ∷ is) = let ih = declare_all_blind is in search (blinding, declare_blind) depth 12
 
-pub file_blind : {own : Option (List ℕ)} (ev : Evals) (p : Program) → BlindEvals own ev → IsBlind own {A = Course} (file ev p)
+pub file_blind : {own : Option (List ℕ)} (ev : Evals) (p : Program) → BlindEvals own ev → IsBlind {A = Course} own (file ev p)
 file_blind ev p h = search (blinding, block_blind, declare_all_blind) depth 12
 
-pub read_as_blind : {own : Option (List ℕ)} (src : List ℕ) (a1 : Result Program ParseFault) → IsBlind own {A = Program} (read_as src a1)
+pub read_as_blind : {own : Option (List ℕ)} (src : List ℕ) (a1 : Result Program ParseFault) → IsBlind {A = Program} own (read_as src a1)
 read_as_blind src (Ok p) = search blinding depth 12
 read_as_blind src (Err (fault.Syntax place)) = search blinding depth 12
 read_as_blind src (Err (fault.TooDeep place)) = search blinding depth 12
 read_as_blind src (Err fault.Memory) = search blinding depth 12
 
-pub program_of_blind : {own : Option (List ℕ)} (src : List ℕ) → IsBlind own {A = Program} (program_of src)
+pub program_of_blind : {own : Option (List ℕ)} (src : List ℕ) → IsBlind {A = Program} own (program_of src)
 program_of_blind src = search (blinding, read_as_blind) depth 12
 
-pub source_blind : {own : Option (List ℕ)} (ev : Evals) (src : List ℕ) → BlindEvals own ev → IsBlind own {A = Course} (source ev src)
+pub source_blind : {own : Option (List ℕ)} (ev : Evals) (src : List ℕ) → BlindEvals own ev → IsBlind {A = Course} own (source ev src)
 unfolding source
 source_blind ev src h = search (blinding, file_blind, program_of_blind) depth 12

@@ -47,26 +47,26 @@ use Rattle.resin_meaning_forms.proofs.blind_forms.Targets.{steps_blind}
 use Rattle.resin_meaning_forms.proofs.blind_forms.Operators.{equal_blind}
 use Rattle.resin_meaning_forms.proofs.blind_forms.Invoke.{block_blind}
 
-pub echo_all_blind : {own : Option (List ℕ)} (ev : Evals) (a1 : List Expr) → BlindEvals own ev → IsBlind own {A = Course} (echo_all ev a1)
+pub echo_all_blind : {own : Option (List ℕ)} (ev : Evals) (a1 : List Expr) → BlindEvals own ev → IsBlind {A = Course} own (echo_all ev a1)
 echo_all_blind ev [] h = search blinding depth 12
 echo_all_blind ev (e ∷ es) h = let ih = echo_all_blind ev es h in search (blinding, echo_blind, h.expr) depth 12
 
-pub unset_all_blind : {own : Option (List ℕ)} (ev : Evals) (a1 : List Target) → BlindEvals own ev → IsBlind own {A = Course} (unset_all ev a1)
+pub unset_all_blind : {own : Option (List ℕ)} (ev : Evals) (a1 : List Target) → BlindEvals own ev → IsBlind {A = Course} own (unset_all ev a1)
 unset_all_blind ev [] h = search blinding depth 12
 unset_all_blind ev (t ∷ ts) h = let ih = unset_all_blind ev ts h in search (blinding, steps_blind) depth 12
 
-pub bind_all_blind : {own : Option (List ℕ)} (a0 : List (List ℕ)) → IsBlind own {A = Course} (bind_all a0)
+pub bind_all_blind : {own : Option (List ℕ)} (a0 : List (List ℕ)) → IsBlind {A = Course} own (bind_all a0)
 bind_all_blind [] = search blinding depth 12
 bind_all_blind (x ∷ xs) = let ih = bind_all_blind xs in search blinding depth 12
 
-pub throw_blind : {own : Option (List ℕ)} (v : Value) → IsBlind own {A = Course} (throw v)
+pub throw_blind : {own : Option (List ℕ)} (v : Value) → IsBlind {A = Course} own (throw v)
 throw_blind v = search blinding depth 12
 
-pub returned_blind : {own : Option (List ℕ)} (ev : Evals) (a1 : Option Expr) → BlindEvals own ev → IsBlind own {A = Course} (returned ev a1)
+pub returned_blind : {own : Option (List ℕ)} (ev : Evals) (a1 : Option Expr) → BlindEvals own ev → IsBlind {A = Course} own (returned ev a1)
 returned_blind ev None h = search blinding depth 12
 returned_blind ev (Some e) h = search (blinding, h.expr) depth 12
 
-pub simple_form_blind : {own : Option (List ℕ)} (ev : Evals) (a1 : Simple) → BlindEvals own ev → IsBlind own {A = Course} (simple_form ev a1)
+pub simple_form_blind : {own : Option (List ℕ)} (ev : Evals) (a1 : Simple) → BlindEvals own ev → IsBlind {A = Course} own (simple_form ev a1)
 simple_form_blind ev (simple.Inline bytes) h = search (blinding, inline_blind) depth 12
 simple_form_blind ev (simple.Do e) h = search (blinding, h.expr) depth 12
 simple_form_blind ev (simple.Echo es) h = search (blinding, echo_all_blind) depth 12
@@ -78,60 +78,60 @@ simple_form_blind ev (simple.Unset ts) h = search (blinding, unset_all_blind) de
 simple_form_blind ev (simple.Global names) h = search (blinding, bind_all_blind) depth 12
 simple_form_blind ev simple.Exit h = search blinding depth 12
 
-pub other_branch_blind : {own : Option (List ℕ)} (ev : Evals) (a1 : Option Stmt) → BlindEvals own ev → IsBlind own {A = Course} (other_branch ev a1)
+pub other_branch_blind : {own : Option (List ℕ)} (ev : Evals) (a1 : Option Stmt) → BlindEvals own ev → IsBlind {A = Course} own (other_branch ev a1)
 other_branch_blind ev None h = search blinding depth 12
 other_branch_blind ev (Some s) h = search (blinding, h.stmt) depth 12
 
-pub branches_blind : {own : Option (List ℕ)} (ev : Evals) (other : Option Stmt) (a2 : List Branch) → BlindEvals own ev → IsBlind own {A = Course} (branches ev other a2)
+pub branches_blind : {own : Option (List ℕ)} (ev : Evals) (other : Option Stmt) (a2 : List Branch) → BlindEvals own ev → IsBlind {A = Course} own (branches ev other a2)
 branches_blind ev other [] h = search (blinding, other_branch_blind) depth 12
 branches_blind ev other (b ∷ bs) h = let ih = branches_blind ev other bs h in search (blinding, h.expr, h.stmt) depth 12
 
-pub going_on_blind : {own : Option (List ℕ)} (further : Prog Course) (a1 : Option Course) → IsBlind own further → IsBlind own {A = Course} (going_on further a1)
+pub going_on_blind : {own : Option (List ℕ)} (further : Prog Course) (a1 : Option Course) → IsBlind own further → IsBlind {A = Course} own (going_on further a1)
 going_on_blind further None h_further = search blinding depth 12
 going_on_blind further (Some course) h_further = search blinding depth 12
 
-pub turn_blind : {own : Option (List ℕ)} (ev : Evals) (body : Stmt) (further : Prog Course) → BlindEvals own ev → IsBlind own further → IsBlind own {A = Course} (turn ev body further)
+pub turn_blind : {own : Option (List ℕ)} (ev : Evals) (body : Stmt) (further : Prog Course) → BlindEvals own ev → IsBlind own further → IsBlind {A = Course} own (turn ev body further)
 turn_blind ev body further h h_further = search (blinding, going_on_blind, h.stmt) depth 12
 
-pub while_turns_blind : {own : Option (List ℕ)} (a0 : ℕ) (ev : Evals) (e : Expr) (body : Stmt) → BlindEvals own ev → IsBlind own {A = Course} (while_turns a0 ev e body)
+pub while_turns_blind : {own : Option (List ℕ)} (a0 : ℕ) (ev : Evals) (e : Expr) (body : Stmt) → BlindEvals own ev → IsBlind {A = Course} own (while_turns a0 ev e body)
 while_turns_blind zero ev e body h = search blinding depth 12
 while_turns_blind (suc n) ev e body h = let ih = while_turns_blind n ev e body h in search (blinding, turn_blind, h.expr) depth 12
 
-pub while_loop_blind : {own : Option (List ℕ)} (ev : Evals) (e : Expr) (body : Stmt) → BlindEvals own ev → IsBlind own {A = Course} (while_loop ev e body)
+pub while_loop_blind : {own : Option (List ℕ)} (ev : Evals) (e : Expr) (body : Stmt) → BlindEvals own ev → IsBlind {A = Course} own (while_loop ev e body)
 while_loop_blind ev e body h = search (blinding, while_turns_blind, blind_by_ticks) depth 12
 
-pub last_holds_blind : {own : Option (List ℕ)} (ev : Evals) (so_far : Bool) (a2 : List Expr) → BlindEvals own ev → IsBlind own {A = Bool} (last_holds ev so_far a2)
+pub last_holds_blind : {own : Option (List ℕ)} (ev : Evals) (so_far : Bool) (a2 : List Expr) → BlindEvals own ev → IsBlind {A = Bool} own (last_holds ev so_far a2)
 last_holds_blind ev so_far [] h = search blinding depth 12
 last_holds_blind ev so_far (e ∷ es) h = let ih = λ (y1 : Bool). last_holds_blind ev y1 es h in search (blinding, h.expr, ih) depth 12
 
-pub run_all_blind : {own : Option (List ℕ)} (ev : Evals) (a1 : List Expr) → BlindEvals own ev → IsBlind own {A = (Unit {0})} (run_all ev a1)
+pub run_all_blind : {own : Option (List ℕ)} (ev : Evals) (a1 : List Expr) → BlindEvals own ev → IsBlind {A = (Unit {0})} own (run_all ev a1)
 run_all_blind ev [] h = search blinding depth 12
 run_all_blind ev (e ∷ es) h = let ih = run_all_blind ev es h in search (blinding, h.expr) depth 12
 
-pub for_turns_blind : {own : Option (List ℕ)} (a0 : ℕ) (ev : Evals) (tests : List Expr) (steps : List Expr) (body : Stmt) → BlindEvals own ev → IsBlind own {A = Course} (for_turns a0 ev tests steps body)
+pub for_turns_blind : {own : Option (List ℕ)} (a0 : ℕ) (ev : Evals) (tests : List Expr) (steps : List Expr) (body : Stmt) → BlindEvals own ev → IsBlind {A = Course} own (for_turns a0 ev tests steps body)
 for_turns_blind zero ev tests steps body h = search blinding depth 12
 for_turns_blind (suc n) ev tests steps body h = let ih = for_turns_blind n ev tests steps body h in search (blinding, turn_blind, last_holds_blind, run_all_blind) depth 12
 
-pub for_loop_blind : {own : Option (List ℕ)} (ev : Evals) (tests : List Expr) (steps : List Expr) (body : Stmt) → BlindEvals own ev → IsBlind own {A = Course} (for_loop ev tests steps body)
+pub for_loop_blind : {own : Option (List ℕ)} (ev : Evals) (tests : List Expr) (steps : List Expr) (body : Stmt) → BlindEvals own ev → IsBlind {A = Course} own (for_loop ev tests steps body)
 for_loop_blind ev tests steps body h = search (blinding, blind_by_ticks, for_turns_blind) depth 12
 
-pub assign_key_blind : {own : Option (List ℕ)} (a0 : Option (List ℕ)) (k : Key) → IsBlind own {A = (Unit {0})} (assign_key a0 k)
+pub assign_key_blind : {own : Option (List ℕ)} (a0 : Option (List ℕ)) (k : Key) → IsBlind {A = (Unit {0})} own (assign_key a0 k)
 assign_key_blind None k = search blinding depth 12
 assign_key_blind (Some x) k = search blinding depth 12
 
-pub assign_entry_blind : {own : Option (List ℕ)} (kx : Option (List ℕ)) (x : List ℕ) (e : Key × Tree) → IsBlind own {A = (Unit {0})} (assign_entry kx x e)
+pub assign_entry_blind : {own : Option (List ℕ)} (kx : Option (List ℕ)) (x : List ℕ) (e : Key × Tree) → IsBlind {A = (Unit {0})} own (assign_entry kx x e)
 assign_entry_blind kx x e = search (blinding, assign_key_blind) depth 12
 
-pub each_entry_blind : {own : Option (List ℕ)} (ev : Evals) (kx : Option (List ℕ)) (x : List ℕ) (body : Stmt) (a4 : EntryList) → BlindEvals own ev → IsBlind own {A = Course} (each_entry ev kx x body a4)
+pub each_entry_blind : {own : Option (List ℕ)} (ev : Evals) (kx : Option (List ℕ)) (x : List ℕ) (body : Stmt) (a4 : EntryList) → BlindEvals own ev → IsBlind {A = Course} own (each_entry ev kx x body a4)
 each_entry_blind ev kx x body [] h = search blinding depth 12
 each_entry_blind ev kx x body (e ∷ es) h = let ih = each_entry_blind ev kx x body es h in search (blinding, turn_blind, assign_entry_blind) depth 12
 
-pub foreach_blind : {own : Option (List ℕ)} (ev : Evals) (kx : Option (List ℕ)) (x : List ℕ) (body : Stmt) (v : Value) → BlindEvals own ev → IsBlind own {A = Course} (foreach ev kx x body v)
+pub foreach_blind : {own : Option (List ℕ)} (ev : Evals) (kx : Option (List ℕ)) (x : List ℕ) (body : Stmt) (v : Value) → BlindEvals own ev → IsBlind {A = Course} own (foreach ev kx x body v)
 foreach_blind ev kx x body (Arr a) h = search (blinding, each_entry_blind) depth 12
 foreach_blind ev kx x body v h = search blinding depth 12
 
-pub loop_form_blind : {own : Option (List ℕ)} (ev : Evals) (l : Loop) → BlindEvals own ev → IsBlind own {A = Course} (loop_form ev l)
-loop_form_blind ev l h = elim (out-Loop l) as (λ x. IsBlind own {A = Course} (elim x [
+pub loop_form_blind : {own : Option (List ℕ)} (ev : Evals) (l : Loop) → BlindEvals own ev → IsBlind {A = Course} own (loop_form ev l)
+loop_form_blind {own = own} ev l h = elim (out-Loop l) as (λ x. IsBlind {A = Course} own (elim x [
   | Loop-F.While e body ↦ while_loop ev e body
   | Loop-F.DoWhile body e ↦ turn ev body (while_loop ev e body)
   | Loop-F.For first tests steps body ↦ run_all ev first >> for_loop ev tests steps body
@@ -143,9 +143,9 @@ loop_form_blind ev l h = elim (out-Loop l) as (λ x. IsBlind own {A = Course} (e
   | Loop-F.Foreach e kx x body ↦ search (blinding, steps_blind, turn_blind, while_loop_blind, run_all_blind, for_loop_blind, foreach_blind, h.expr) depth 12
 ]
 
-pub chosen_blind : {own : Option (List ℕ)} (ev : Evals) (v : Value) (default : List Case) (a3 : List Case) → BlindEvals own ev → IsBlind own {A = (List Case)} (chosen ev v default a3)
+pub chosen_blind : {own : Option (List ℕ)} (ev : Evals) (v : Value) (default : List Case) (a3 : List Case) → BlindEvals own ev → IsBlind {A = (List Case)} own (chosen ev v default a3)
 chosen_blind ev v default [] h = search blinding depth 12
-chosen_blind ev v default (c ∷ cs) h = let ih = chosen_blind ev v default cs h in elim (out-Case c).condition as (λ x. IsBlind own {A = (List Case)} (elim x [
+chosen_blind {own = own} ev v default (c ∷ cs) h = let ih = chosen_blind ev v default cs h in elim (out-Case c).condition as (λ x. IsBlind {A = (List Case)} own (elim x [
   | None ↦ chosen ev v default cs
   | Some e ↦ (do
     w ← ev.expr e
@@ -156,37 +156,37 @@ chosen_blind ev v default (c ∷ cs) h = let ih = chosen_blind ev v default cs h
   | Some e ↦ search (blinding, equal_blind, h.expr) depth 12
 ]
 
-pub run_cases_blind : {own : Option (List ℕ)} (ev : Evals) (a1 : List Case) → BlindEvals own ev → IsBlind own {A = Course} (run_cases ev a1)
+pub run_cases_blind : {own : Option (List ℕ)} (ev : Evals) (a1 : List Case) → BlindEvals own ev → IsBlind {A = Course} own (run_cases ev a1)
 run_cases_blind ev [] h = search blinding depth 12
-run_cases_blind ev (c ∷ cs) h = let ih = run_cases_blind ev cs h in blind_bind _ _ (search (blinding, block_blind) depth 12) (λ x. elim x as (λ y. IsBlind own {A = Course} (elim y [ Next ↦ run_cases ev cs | Break ↦ give Next | Continue ↦ give Next | Return v ↦ give (Return v) ])) [ Next ↦ search (blinding, block_blind) depth 12 | Break ↦ search (blinding, block_blind) depth 12 | Continue ↦ search (blinding, block_blind) depth 12 | Return v ↦ search (blinding, block_blind) depth 12 ])
+run_cases_blind {own = own} ev (c ∷ cs) h = let ih = run_cases_blind ev cs h in blind_bind _ _ (search (blinding, block_blind) depth 12) (λ x. elim x as (λ y. IsBlind {A = Course} own (elim y [ Next ↦ run_cases ev cs | Break ↦ give Next | Continue ↦ give Next | Return v ↦ give (Return v) ])) [ Next ↦ search (blinding, block_blind) depth 12 | Break ↦ search (blinding, block_blind) depth 12 | Continue ↦ search (blinding, block_blind) depth 12 | Return v ↦ search (blinding, block_blind) depth 12 ])
 
-pub switch_blind : {own : Option (List ℕ)} (ev : Evals) (e : Expr) (cs : List Case) → BlindEvals own ev → IsBlind own {A = Course} (switch ev e cs)
+pub switch_blind : {own : Option (List ℕ)} (ev : Evals) (e : Expr) (cs : List Case) → BlindEvals own ev → IsBlind {A = Course} own (switch ev e cs)
 switch_blind ev e cs h = search (blinding, chosen_blind, run_cases_blind, h.expr) depth 12
 
-pub assign_caught_blind : {own : Option (List ℕ)} (a0 : Option (List ℕ)) (o : ℕ) → IsBlind own {A = (Unit {0})} (assign_caught a0 o)
+pub assign_caught_blind : {own : Option (List ℕ)} (a0 : Option (List ℕ)) (o : ℕ) → IsBlind {A = (Unit {0})} own (assign_caught a0 o)
 assign_caught_blind None o = search blinding depth 12
 assign_caught_blind (Some x) o = search blinding depth 12
 
-pub handled_blind : {own : Option (List ℕ)} (ev : Evals) (o : ℕ) (a2 : Option Catch) → BlindEvals own ev → IsBlind own {A = Course} (handled ev o a2)
+pub handled_blind : {own : Option (List ℕ)} (ev : Evals) (o : ℕ) (a2 : Option Catch) → BlindEvals own ev → IsBlind {A = Course} own (handled ev o a2)
 handled_blind ev o None h = search blinding depth 12
 handled_blind ev o (Some c) h = search (blinding, block_blind, assign_caught_blind) depth 12
 
-pub catching_blind : {own : Option (List ℕ)} (ev : Evals) (cs : List Catch) (o : ℕ) → BlindEvals own ev → IsBlind own {A = Course} (catching ev cs o)
+pub catching_blind : {own : Option (List ℕ)} (ev : Evals) (cs : List Catch) (o : ℕ) → BlindEvals own ev → IsBlind {A = Course} own (catching ev cs o)
 catching_blind ev cs o h = search (blinding, handled_blind) depth 12
 
-pub caught_by_blind : {own : Option (List ℕ)} (ev : Evals) (cs : List Catch) (a2 : Result Course ℕ) → BlindEvals own ev → IsBlind own {A = Course} (caught_by ev cs a2)
+pub caught_by_blind : {own : Option (List ℕ)} (ev : Evals) (cs : List Catch) (a2 : Result Course ℕ) → BlindEvals own ev → IsBlind {A = Course} own (caught_by ev cs a2)
 caught_by_blind ev cs (Ok course) h = search blinding depth 12
 caught_by_blind ev cs (Err o) h = search (blinding, catching_blind) depth 12
 
-pub with_catches_blind : {own : Option (List ℕ)} (ev : Evals) (body : List Stmt) (cs : List Catch) → BlindEvals own ev → IsBlind own {A = Course} (with_catches ev body cs)
+pub with_catches_blind : {own : Option (List ℕ)} (ev : Evals) (body : List Stmt) (cs : List Catch) → BlindEvals own ev → IsBlind {A = Course} own (with_catches ev body cs)
 with_catches_blind ev body cs h = search (blinding, block_blind, caught_by_blind) depth 12
 
-pub try_form_blind : {own : Option (List ℕ)} (ev : Evals) (body : List Stmt) (cs : List Catch) (a3 : Option (List Stmt)) → BlindEvals own ev → IsBlind own {A = Course} (try_form ev body cs a3)
+pub try_form_blind : {own : Option (List ℕ)} (ev : Evals) (body : List Stmt) (cs : List Catch) (a3 : Option (List Stmt)) → BlindEvals own ev → IsBlind {A = Course} own (try_form ev body cs a3)
 try_form_blind ev body cs None h = search (blinding, with_catches_blind) depth 12
 try_form_blind ev body cs (Some last) h = search (blinding, block_blind, with_catches_blind) depth 12
 
-pub stmt_form_blind : {own : Option (List ℕ)} (ev : Evals) (k : StmtKind) → BlindEvals own ev → IsBlind own {A = Course} (stmt_form ev k)
-stmt_form_blind ev k h = elim (out-StmtKind k) as (λ x. IsBlind own {A = Course} (elim x [
+pub stmt_form_blind : {own : Option (List ℕ)} (ev : Evals) (k : StmtKind) → BlindEvals own ev → IsBlind {A = Course} own (stmt_form ev k)
+stmt_form_blind {own = own} ev k h = elim (out-StmtKind k) as (λ x. IsBlind {A = Course} own (elim x [
   | StmtKind-F.Simple s ↦ simple_form ev s
   | StmtKind-F.Block ss ↦ block ev ss
   | StmtKind-F.If bs other ↦ branches ev other bs

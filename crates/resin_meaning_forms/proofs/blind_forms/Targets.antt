@@ -11,8 +11,8 @@ use Rattle.resin_meaning_forms.specs.Targets.{step, steps_on, steps}
 use Rattle.resin_meaning_forms.specs.Blindness.{IsBlind}
 use Rattle.resin_meaning_forms.proofs.Blindness.{BlindEvals, blinding}
 
-pub step_blind : {own : Option (List ℕ)} (ev : Evals) (path : Path) (s : PathStep) → BlindEvals own ev → IsBlind own {A = Path} (step ev path s)
-step_blind ev path s h = elim (out-PathStep s) as (λ x. IsBlind own {A = Path} (elim x [
+pub step_blind : {own : Option (List ℕ)} (ev : Evals) (path : Path) (s : PathStep) → BlindEvals own ev → IsBlind {A = Path} own (step ev path s)
+step_blind {own = own} ev path s h = elim (out-PathStep s) as (λ x. IsBlind {A = Path} own (elim x [
   | PathStep-F.«PathStep::Index» e ↦ ev.expr e >>= λ v. give (with_index (At v) path)
   | PathStep-F.Append ↦ give (with_index Next path)
   | PathStep-F.«PathStep::Property» p ↦ give (with_property p path)
@@ -22,9 +22,9 @@ step_blind ev path s h = elim (out-PathStep s) as (λ x. IsBlind own {A = Path} 
   | PathStep-F.«PathStep::Property» p ↦ search (blinding, h.expr) depth 12
 ]
 
-pub steps_on_blind : {own : Option (List ℕ)} (ev : Evals) (path : Path) (a2 : List PathStep) → BlindEvals own ev → IsBlind own {A = Path} (steps_on ev path a2)
+pub steps_on_blind : {own : Option (List ℕ)} (ev : Evals) (path : Path) (a2 : List PathStep) → BlindEvals own ev → IsBlind {A = Path} own (steps_on ev path a2)
 steps_on_blind ev path [] h = search blinding depth 12
 steps_on_blind ev path (s ∷ ss) h = let ih = λ (y1 : Path). steps_on_blind ev y1 ss h in search (blinding, step_blind, ih) depth 12
 
-pub steps_blind : {own : Option (List ℕ)} (ev : Evals) (ss : List PathStep) → BlindEvals own ev → IsBlind own {A = Path} (steps ev ss)
+pub steps_blind : {own : Option (List ℕ)} (ev : Evals) (ss : List PathStep) → BlindEvals own ev → IsBlind {A = Path} own (steps ev ss)
 steps_blind ev ss h = search (blinding, steps_on_blind) depth 12
