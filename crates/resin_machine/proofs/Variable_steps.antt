@@ -100,10 +100,10 @@ put_other name v m m0 frames e0 i k e = (
   subst (λ (x : State). IsInside x (record m0 { frames = frames })) e0 (frames_inside m0 frames (open_of name v m0 frames e)),
 )
 
-pub put_session : (name : List ℕ) (v : Value) (m m0 : State) → m0 ≡ m → is_input name ≡ false → is_session name ≡ true → (with_session v m0 ≡ with_variable name v m) × IsInside m (with_session v m0)
-put_session name v m m0 e0 i k = (
-  sym (set_session_value name v m0 i k) ∙ ap (with_variable name v) e0,
-  subst (λ (x : State). IsInside x (with_session v m0)) e0 (session_inside m0 v),
+pub put_session : (name : List ℕ) (v w : Value) (m m0 : State) → m0 ≡ m → is_input name ≡ false → is_session name ≡ true → w ≡ v → (with_session w m0 ≡ with_variable name v m) × IsInside m (with_session w m0)
+put_session name v w m m0 e0 i k e = (
+  ap (λ x. with_session x m0) e ∙ sym (set_session_value name v m0 i k) ∙ ap (with_variable name v) e0,
+  subst (λ (x : State). IsInside x (with_session w m0)) e0 (session_inside m0 w),
 )
 
 there : {X : Type 0} (o : Option X) (v : X) → o ≡ Some v → is_some o ≡ true

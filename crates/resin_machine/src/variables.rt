@@ -89,7 +89,8 @@ impl Machine {
         self.scopes.exchange(name, Value::Null)
     }
 
-    /// Takes a variable out. Of a name that `global` bound in the innermost call the binding ends alone; `$_SESSION` is null then. It takes no memory.
+    /// Takes a variable out. Of a name that `global` bound in the innermost call the binding ends alone; `$_SESSION` is null then. It takes no
+    /// memory.
     pub fn unset(&mut self, name: &[u8])
         ensures after { self.new ≡ without_variable name.now self.old }
         ensures inside { IsInside self.old self.new }
@@ -105,7 +106,8 @@ impl Machine {
         self.scopes.unset(name);
     }
 
-    /// Binds a name of the innermost call to the variable of the top level, as `global` does. At the top level, for an input and for `$_SESSION` nothing happens.
+    /// Binds a name of the innermost call to the variable of the top level, as `global` does. At the top level, for an input and for `$_SESSION`
+    /// nothing happens.
     pub fn bind_global(&mut self, name: &[u8]) -> Result<(), Stop>
         ensures acts { Acts (bind_global name.now) self.old result self.new }
     {

@@ -57,7 +57,7 @@ serve_found path inputs (Some e) = do
   give Answered
 
 -- One request for a path; where the path isn't open to requests, nothing is read. The file is read; where there is none, nothing else happens.
--- `boot.php` runs, with empty inputs and an empty `$_SESSION`. The inputs are set. What is kept of the request's session becomes `$_SESSION`. The file
--- runs, or goes out. What open buffers hold goes out. What `$_SESSION` holds is kept.
+-- `boot.php` runs, with empty inputs and an empty `$_SESSION`. The inputs are set. What is kept of the request's session becomes `$_SESSION`. The
+-- file runs, or goes out. What open buffers hold goes out. What `$_SESSION` holds is kept.
 abbrev pub request_program : List ℕ → InputArrays → Prog Finish
 request_program path inputs = if is_open path then read_file path >>= serve_found path inputs else give Missing

@@ -5,7 +5,8 @@ ghost use Rattle.resin_inputs.specs.Under.lstr.Texts.{bytes_of};
 ghost use Rattle.resin_interp.specs.Under.meaning.Runs.{Does, files_seen, seen, world};
 ghost use Rattle.resin_interp.specs.Under.eval_nested.Running.{Performs};
 ghost use Rattle.resin_interp.specs.Under.store.Entries.{lift};
-ghost use Rattle.resin_request.specs.Requests.{put_inputs, request_program, run_boot, run_found, run_script, send_file, serve_and_end, serve_file, serve_found};
+ghost use Rattle.resin_request.specs.Requests.{put_inputs, request_program, run_boot, run_found, run_script, send_file};
+ghost use Rattle.resin_request.specs.Requests.{serve_and_end, serve_file, serve_found};
 ghost use Rattle.resin_request.specs.Sessions.{in_session, session_of};
 ghost use Rattle.resin_request.specs.Sources.{run_source};
 
@@ -218,11 +219,11 @@ fn perform_request<F: Files, T: Tables>(
     }
 }
 
-/// One request for a path, from the state in which a request begins. A path that isn't open to requests is missing, and nothing is read. The file
-/// is read; where there is none, nothing else happens. `boot.php`
-/// is read and, where it is there, runs with empty inputs: its top-level `return`, or an `exit` anywhere, ends it alone. The inputs pass the filters of `input`, and are
-/// set. What is kept of the session that the cookie `sid` names, before those filters, becomes `$_SESSION`. A script passes the filters of `code`, and runs; another file
-/// passes those of `file`, and goes out as one write on `http`. What open output buffers hold goes out as one more write. What `$_SESSION` holds is kept, by a write where it changed.
+/// One request for a path, from the state in which a request begins. A path that isn't open to requests is missing, and nothing is read. The file is
+/// read; where there is none, nothing else happens. `boot.php` is read and, where it is there, runs with empty inputs: its top-level `return`, or an
+/// `exit` anywhere, ends it alone. The inputs pass the filters of `input`, and are set. What is kept of the session that the cookie `sid` names,
+/// before those filters, becomes `$_SESSION`. A script passes the filters of `code`, and runs; another file passes those of `file`, and goes out as
+/// one write on `http`. What open output buffers hold goes out as one more write. What `$_SESSION` holds is kept, by a write where it changed.
 ///
 /// # Errors
 ///

@@ -17,10 +17,11 @@ use resin_request::{path_of, run_request};
 use std::alloc::{AllocError, Global};
 
 /// Serves one request; `number` is its number in its mail and its log. The runtime reads the file that the target asks for, runs `boot.php`, sets
-/// the inputs behind their filters, makes what is kept of the request's session `$_SESSION`, runs the file where it is a script, or sends it, and keeps
-/// what `$_SESSION` holds then.
+/// the inputs behind their filters, makes what is kept of the request's session `$_SESSION`, runs the file where it is a script, or sends it, and
+/// keeps what `$_SESSION` holds then.
 ///
-/// A request has the session that its cookie `sid` names by 32 bytes `0` to `9` or `a` to `f`. Whether others know that name is for the site to see to.
+/// A request has the session that its cookie `sid` names by 32 bytes `0` to `9` or `a` to `f`. Whether others know that name is for the site to see
+/// to.
 ///
 /// The end is `Served` with the status that the scripts set, which is 200 at first; `NotFound` with 404 where the path isn't open to requests or
 /// names no file; `Uncaught` and `Fault` with 500; and `Keeper` with 503 exactly where the last keeper call failed. What was sent before an end stays, and the end's text comes behind it. A HEAD request's response leaves the body out.

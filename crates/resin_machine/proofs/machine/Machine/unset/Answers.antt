@@ -9,7 +9,7 @@ pub returns-then-is_input-clause-inside : goal.returns-then-is_input-clause-insi
 returns-then-is_input-clause-inside c = (unset_input _ _ _ _ c.self.view_is (sym c.is_input.ensures ∙ c.if-is_input.true) c.remove.ensures).1
 
 pub returns-then-is_session-clause-after : goal.returns-then-is_session-clause-after
-returns-then-is_session-clause-after c = (unset_session _ _ _ c.self.view_is (sym c.is_input.ensures ∙ c.if-is_input.false) (sym c.is_session.ensures ∙ c.if-is_session.true)).0
+returns-then-is_session-clause-after c = (unset_session c.args.name.now _ _ c.self.view_is (sym c.is_input.ensures ∙ c.if-is_input.false) (sym c.is_session.ensures ∙ c.if-is_session.true)).0
 
 pub returns-then-is_session-clause-inside : goal.returns-then-is_session-clause-inside
 returns-then-is_session-clause-inside c = (unset_session c.args.name.now _ _ c.self.view_is (sym c.is_input.ensures ∙ c.if-is_input.false) (sym c.is_session.ensures ∙ c.if-is_session.true)).1
