@@ -87,7 +87,7 @@ begin_session_blind : (name : List ℕ) → IsBlind (Some name) (begin_session n
 begin_session_blind name =
     blind_bind _ _ (blind_read (session_path name) (own_seen name)) (λ found. blind_bind _ _ (set_found_blind found) (λ u. blind_ended (Ok found)))
 
-write_changed_blind : (name : List ℕ) (found : Option LabelledEntry) (d : Marked) → IsBlind (Some name) (write_changed name found d)
+write_changed_blind : (name : List ℕ) (found : Option LabelledEntry) (d : Marked) → IsBlind (Some name) (write_changed (session_path name) found d)
 write_changed_blind name found d = blind_if _ _ _ (blind_ended (Ok tt)) (blind_write (session_path name) d (own_seen name))
 
 keep_text_blind : (name : List ℕ) (found : Option LabelledEntry) (t : LabelledText) → IsBlind (Some name) (keep_text name found t)

@@ -13,6 +13,7 @@ use Rattle.resin_inputs.specs.Under.value.declared.value.Value.{Value}
 use Rattle.resin_inputs.specs.Under.value.declared.value.Value.TheVariants.{Null, Bool as Truth, Int, Text, Arr, Obj}
 use Rattle.resin_inputs.specs.Under.value.Trees.{Tree, null, boolean, integer, text, array, object}
 use Rattle.resin_inputs.specs.Under.value.Arrays.{Array, EntryList}
+use Rattle.resin_inputs.specs.Under.value.Seen.{tree_of}
 use Rattle.resin_session.specs.Texts.{is_storable, session_text}
 use Rattle.resin_session.specs.Sessions.{IsKept, IsSessionOf, array_of}
 use Rattle.resin_interp.specs.Under.base.FileStore.{entry_of}
@@ -26,7 +27,7 @@ use Rattle.resin_interp.specs.Under.meaning_forms.Keeping.{size}
 use Rattle.resin_interp.specs.Under.meaning_forms.Operators.{too_long}
 use Rattle.resin_interp.proofs.meaning_lemmas.Composition.{does_unbegun_exit}
 use Rattle.resin_interp.proofs.meaning_lemmas.OneCall.{kept_entry}
-use Rattle.resin_request.specs.Sessions.{in_session, begin_session, text_of_entries, text_of_value, held, is_same}
+use Rattle.resin_request.specs.Sessions.{in_session, begin_session, text_of_entries, text_of_value, held, is_same, named_in}
 
 -- want of memory before steps that may run in a session
 pub lost_in_session : (o : Option (List ℕ)) (p : Prog (Unit {0})) (q : Unit {0} → Prog (Unit {0})) {u : World} (r : Result (Unit {0}) Stop) → IsErrAnd r (λ e. e ≡ Memory) → Does (in_session o (p >>= q)) u r u
@@ -91,3 +92,11 @@ no_array (Int n s) h = refl
 no_array (Text t) h = refl
 no_array (Arr a) h = absurd (h a refl)
 no_array (Obj o) h = refl
+
+pub no_name : (v : Value) → ((t : LabelledText) → v ≡ Text t → ⊥) → None ≡ named_in (tree_of v)
+no_name Null h = refl
+no_name (Truth b) h = refl
+no_name (Int n s) h = refl
+no_name (Text t) h = absurd (h t refl)
+no_name (Arr a) h = refl
+no_name (Obj o) h = refl

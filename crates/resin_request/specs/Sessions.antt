@@ -35,10 +35,15 @@ use Rattle.resin_interp.specs.Under.meaning_forms.Sessions.{is_session_name, ses
 abbrev pub name_in : List ℕ → Option (List ℕ)
 name_in w = if is_session_name w then Some w else None
 
--- the session that a cookie names, if it does
+-- the session that a value names: a text alone names one
+abbrev pub named_in : Tree → Option (List ℕ)
+named_in (text t) = name_in (bytes_of t)
+named_in t = None
+
+-- the session that a cookie names, if there is one that does
 abbrev pub named_by : Option Tree → Option (List ℕ)
-named_by (Some (text t)) = name_in (bytes_of t)
-named_by o = None
+named_by (Some t) = named_in t
+named_by None = None
 
 -- the session of a request: that which its cookie `sid` names as it came, whatever the filters of inputs make of it
 abbrev pub session_of : InputArrays → Option (List ℕ)
@@ -82,14 +87,14 @@ is_same e f = bytes_eq e.bytes f.bytes && bytes_eq e.shadow f.shadow
 
 -- an entry is written exactly where it isn't the one that was found
 abbrev pub write_changed : List ℕ → Option LabelledEntry → Marked → Prog (Unit {0})
-write_changed name found d = if is_same (plain (Good d Second)) (held found) then give tt else write_file (session_path name) d
+write_changed path found d = if is_same (plain (Good d Second)) (held found) then give tt else write_file path d
 
 -- a session text is charged by its bytes, its policies are frozen, and it is written where it changed
 abbrev pub keep_text : List ℕ → Option LabelledEntry → LabelledText → Prog (Unit {0})
 keep_text name found t = do
   act (charge_bytes (length t))
   marks ← freeze_text t
-  write_changed name found (zip (bytes_of t) marks)
+  write_changed (session_path name) found (zip (bytes_of t) marks)
 
 -- what `$_SESSION` holds is kept
 abbrev pub end_session : List ℕ → Option LabelledEntry → Prog (Unit {0})

@@ -6,8 +6,7 @@ ghost use Rattle.resin_inputs.specs.Under.scalar.Stops.{GivesOrNoMemory};
 ghost use Rattle.resin_inputs.specs.Under.value.Seen.{tree_of};
 ghost use Rattle.resin_interp.specs.Under.base.FileStore.{entry_of};
 ghost use Rattle.resin_interp.specs.Under.eval_nested.Running.{Performs};
-ghost use Rattle.resin_interp.specs.Under.meaning.KeeperCalls.{lifted};
-ghost use Rattle.resin_interp.specs.Under.meaning_forms.Runs.{Runs};
+ghost use Rattle.resin_interp.specs.Under.meaning_forms.Runs.{Runs, on_ok};
 ghost use Rattle.resin_interp.specs.Under.meaning_forms.Sessions as names;
 ghost use Rattle.resin_interp.specs.Under.store.Entries.{AreWritten, Marked, lift};
 ghost use Rattle.resin_request.specs.Sessions as spec;
@@ -55,13 +54,23 @@ fn name_in(text: &[u8]) -> Option<&[u8]>
     }
 }
 
-// The session that a cookie names, if it does.
+// The session that a value names: a text alone names one.
+fn named_in(value: &Value) -> Option<&[u8]>
+    ensures { option_map (λ n. n.now) result ≡ spec.named_in (tree_of value.now) }
+{
+    match value {
+        Value::Text(text) => name_in(text.bytes()),
+        _ => None,
+    }
+}
+
+// The session that a cookie names, if there is one that does.
 fn named_by(cookie: Option<&Value>) -> Option<&[u8]>
     ensures { option_map (λ n. n.now) result ≡ spec.named_by (option_map (λ v. tree_of v.now) cookie) }
 {
     match cookie {
-        Some(Value::Text(text)) => name_in(text.bytes()),
-        _ => None,
+        Some(value) => named_in(value),
+        None => None,
     }
 }
 
@@ -109,7 +118,8 @@ fn set_entry(alloc: Global, m: &mut Machine, e: &Entry) -> Result<(), Stop>
 fn set_empty(alloc: Global, m: &mut Machine) -> Result<(), Stop>
     ensures { Runs (spec.set_found None) m.old result m.new }
 {
-    set_session(m, Arr::new(alloc)?);
+    let empty = Arr::new(alloc)?;
+    set_session(m, empty);
     Ok(())
 }
 
@@ -134,7 +144,7 @@ pub(crate) fn begin_session<F: Files, T: Tables>(
     run: &mut Run<F, T>,
     name: &[u8],
 ) -> Result<Option<Entry>, Stop>
-    ensures { Performs F.Files T.Tables (spec.begin_session name.now) run.old (lifted result) run.new }
+    ensures { Performs F.Files T.Tables (spec.begin_session name.now) run.old (on_ok (option_map lift) result) run.new }
 {
     let path = session_path(alloc, name)?;
     let found = run.read_file(path.as_slice())?;
@@ -181,23 +191,21 @@ fn is_held(found: &Option<Entry>, bytes: &[u8], shadow: &[u8]) -> bool
     }
 }
 
-// Writes an entry of a session, where it isn't the one that was found.
+// Writes an entry, where it isn't the one that was found.
 fn write_changed<F: Files, T: Tables>(
-    alloc: Global,
     run: &mut Run<F, T>,
-    name: &[u8],
+    path: &[u8],
     found: &Option<Entry>,
     bytes: &[u8],
     shadow: &[u8],
 ) -> Result<(), Stop>
     ensures { (d : Marked) → AreWritten bytes.now shadow.now d
-        → Performs F.Files T.Tables (spec.write_changed name.now (option_map lift found.now) d) run.old result run.new }
+        → Performs F.Files T.Tables (spec.write_changed path.now (option_map lift found.now) d) run.old result run.new }
 {
     if is_held(found, bytes, shadow) {
         return Ok(());
     }
-    let path = session_path(alloc, name)?;
-    run.write_file(path.as_slice(), bytes, shadow)
+    run.write_file(path, bytes, shadow)
 }
 
 // A session text is charged, its policies are frozen, and it is written where it changed.
@@ -212,10 +220,10 @@ fn keep_text<F: Files, T: Tables>(
 {
     charge_bytes(&mut run.machine, text.len() as u64)?;
     let marks = freeze_text(alloc, &run.machine, text)?;
-    let bytes = text.bytes();
     let _len = marks.len();
     let shadow = encode(alloc, &marks)?;
-    write_changed(alloc, run, name, found, bytes, shadow.as_slice())
+    let path = session_path(alloc, name)?;
+    write_changed(run, path.as_slice(), found, text.bytes(), shadow.as_slice())
 }
 
 /// Keeps what `$_SESSION` holds, by a write exactly where bytes or shadow text differ from those that were found; where none were, from empty

@@ -6,4 +6,4 @@ pub returns-in-Some : goal.returns-in-Some
 returns-in-Some c = rw (c.as_slice.ensures, c.as_slice-2.ensures) at c.are_same.ensures ∙ held_there _ _ _ _ c.in-Some.is
 
 pub returns-in-None : goal.returns-in-None
-returns-in-None c = rw c.in-None.is c.are_same.ensures
+returns-in-None c = rw c.in-None.is c.are_same-in-None.ensures
