@@ -1,9 +1,10 @@
 -- What the steps of sessions do, in the words of their programs.
-use Rattle.std.proofs.Common.{◌≡◌, ℕ, ℤ, Bool, true, false, cond, ◌<◌, ◌≤◌, List, [], ◌∷◌, length, Option, Some, None, Result, Ok, Err, refl, sym, ap, subst, ◌∙◌, arith, IsErrAnd}
+use Rattle.std.proofs.Common.{◌≡◌, ℕ, ℤ, Bool, true, false, cond, ◌<◌, ◌≤◌, List, [], ◌∷◌, length, Option, Some, None, Result, Ok, Err, inl, refl, sym, ap, subst, ◌∙◌, arith, IsErrAnd}
 use Rattle.std.specs.List.{list_all, AllByRecursion}
 use Rattle.std.specs.Option.{option_map}
 use Rattle.std.specs.Prelude.{nat_le}
 use Rattle.std.proofs.lemmas.List.{length-map}
+use Rattle.std.proofs.lemmas.Result.{err_from_is_err_and}
 use Rattle.resin_inputs.specs.Under.lstr.declared.limits.TheConstants.{LONGEST}
 use Rattle.resin_inputs.specs.Under.lstr.Texts.{Text as LabelledText}
 use Rattle.resin_inputs.specs.Under.scalar.declared.faults.CallStop.{CallStop}
@@ -20,14 +21,19 @@ use Rattle.resin_interp.specs.Under.base.FileStore.{entry_of}
 use Rattle.resin_interp.specs.Under.base.declared.files.Entry.{Entry}
 use Rattle.resin_interp.specs.Under.machine.declared.stop.Stop.{Stop}
 use Rattle.resin_interp.specs.Under.machine.declared.stop.Stop.TheVariants.{Memory}
+use Rattle.resin_interp.specs.Under.machine.Steps.{Act}
 use Rattle.resin_interp.specs.Under.store.Entries.{LabelledEntry, Good, Bad, lift, plain}
-use Rattle.resin_interp.specs.Under.meaning.Programs.{Prog, ◌>>=◌}
+use Rattle.resin_interp.specs.Under.meaning.Programs.{Prog, act, ◌>>=◌}
 use Rattle.resin_interp.specs.Under.meaning.Runs.{World, Does}
 use Rattle.resin_interp.specs.Under.meaning_forms.Keeping.{size}
 use Rattle.resin_interp.specs.Under.meaning_forms.Operators.{too_long}
-use Rattle.resin_interp.proofs.meaning_lemmas.Composition.{does_unbegun_exit}
+use Rattle.resin_interp.proofs.meaning_lemmas.Composition.{does_nothing, does_unbegun_exit}
 use Rattle.resin_interp.proofs.meaning_lemmas.OneCall.{kept_entry}
 use Rattle.resin_request.specs.Sessions.{in_session, begin_session, text_of_entries, text_of_value, held, is_same, named_in}
+
+-- want of memory in place of a step
+pub lost_step : {A : Type 0} (a : Act A) {u : World} (r : Result A Stop) → IsErrAnd r (λ e. e ≡ Memory) → Does (act a) u r u
+lost_step a r h = unfold act in let e = err_from_is_err_and r h in rw (e.1, e.2) (does_nothing (act a) (λ failing at. inl refl))
 
 -- want of memory before steps that may run in a session
 pub lost_in_session : (o : Option (List ℕ)) (p : Prog (Unit {0})) (q : Unit {0} → Prog (Unit {0})) {u : World} (r : Result (Unit {0}) Stop) → IsErrAnd r (λ e. e ≡ Memory) → Does (in_session o (p >>= q)) u r u
