@@ -33,7 +33,7 @@ use Rattle.resin_request.specs.Sessions.{in_session, begin_session, text_of_entr
 
 -- want of memory in place of a step
 pub lost_step : {A : Type 0} (a : Act A) {u : World} (r : Result A Stop) → IsErrAnd r (λ e. e ≡ Memory) → Does (act a) u r u
-lost_step a r h = unfold act in let e = err_from_is_err_and r h in rw (e.1, e.2) (does_nothing (act a) (λ failing at. inl refl))
+lost_step a r h = let e = err_from_is_err_and r h in rw (e.1, e.2) (does_nothing (act a) (λ failing at. unfold act in inl refl))
 
 -- want of memory before steps that may run in a session
 pub lost_in_session : (o : Option (List ℕ)) (p : Prog (Unit {0})) (q : Unit {0} → Prog (Unit {0})) {u : World} (r : Result (Unit {0}) Stop) → IsErrAnd r (λ e. e ≡ Memory) → Does (in_session o (p >>= q)) u r u
