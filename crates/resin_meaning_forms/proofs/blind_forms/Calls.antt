@@ -44,7 +44,7 @@ use Rattle.resin_meaning_forms.proofs.blind_forms.Imports.{import_value_blind}
 
 pub values_on_blind : {own : Option (List ℕ)} (ev : Evals) (vs : List Value) (a2 : List Expr) → BlindEvals own ev → IsBlind {A = (List Value)} own (values_on ev vs a2)
 values_on_blind ev vs [] h = search blinding depth 12
-values_on_blind ev vs (e ∷ es) h = let ih = λ (y1 : List Value). values_on_blind ev y1 es h in search (blinding, h.expr, ih) depth 12
+values_on_blind {own = own} ev vs (e ∷ es) h = let ih = λ (y1 : List Value). values_on_blind {own = own} ev y1 es h in search (blinding, h.expr, ih) depth 12
 
 pub values_blind : {own : Option (List ℕ)} (ev : Evals) (es : List Expr) → BlindEvals own ev → IsBlind {A = (List Value)} own (values ev es)
 values_blind ev es h = search (blinding, values_on_blind) depth 12
@@ -62,7 +62,7 @@ function_filtered_blind f (Err thrown) = search blinding depth 12
 
 pub ask_function_filters_blind : {own : Option (List ℕ)} (ev : Evals) (name : List ℕ) (a2 : List ℕ) (ts : List Tree) → BlindEvals own ev → IsBlind {A = (List Tree)} own (ask_function_filters ev name a2 ts)
 ask_function_filters_blind ev name [] ts h = search blinding depth 12
-ask_function_filters_blind ev name (f ∷ fs) ts h = let ih = λ (y3 : List Tree). ask_function_filters_blind ev name fs y3 h in search (blinding, filter_function_blind, function_filtered_blind, ih) depth 12
+ask_function_filters_blind {own = own} ev name (f ∷ fs) ts h = let ih = λ (y3 : List Tree). ask_function_filters_blind {own = own} ev name fs y3 h in search (blinding, filter_function_blind, function_filtered_blind, ih) depth 12
 
 pub invoked_blind : {own : Option (List ℕ)} (ev : Evals) (a1 : Callee) (ts : List Tree) → BlindEvals own ev → IsBlind {A = Value} own (invoked ev a1 ts)
 invoked_blind ev (Script f) ts h = search (blinding, call_script_blind) depth 12
@@ -99,7 +99,7 @@ set_property_blind o p = search (blinding, property_value_blind) depth 12
 
 pub set_properties_blind : {own : Option (List ℕ)} (o : ℕ) (a1 : List Property) → IsBlind {A = (Unit {0})} own (set_properties o a1)
 set_properties_blind o [] = search blinding depth 12
-set_properties_blind o (p ∷ ps) = let ih = set_properties_blind o ps in search (blinding, set_property_blind) depth 12
+set_properties_blind {own = own} o (p ∷ ps) = let ih = set_properties_blind {own = own} o ps in search (blinding, set_property_blind) depth 12
 
 pub makeable_blind : {own : Option (List ℕ)} (class : ℕ) → IsBlind {A = ℕ} own (makeable class)
 makeable_blind class = search blinding depth 12

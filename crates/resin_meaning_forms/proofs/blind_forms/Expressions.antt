@@ -45,14 +45,14 @@ turned_key_blind (Some k) = search (blinding, keyed_blind) depth 12
 
 pub items_blind : {own : Option (List ℕ)} (ev : Evals) (a : Array) (a2 : List ArrayItem) → BlindEvals own ev → IsBlind {A = Array} own (items ev a a2)
 items_blind ev a [] h = search blinding depth 12
-items_blind ev a (i ∷ is) h = let ih = λ (y1 : Array). items_blind ev y1 is h in search (blinding, item_key_blind, turned_key_blind, h.expr, ih) depth 12
+items_blind {own = own} ev a (i ∷ is) h = let ih = λ (y1 : Array). items_blind {own = own} ev y1 is h in search (blinding, item_key_blind, turned_key_blind, h.expr, ih) depth 12
 
 pub array_form_blind : {own : Option (List ℕ)} (ev : Evals) (is : List ArrayItem) → BlindEvals own ev → IsBlind {A = Value} own (array_form ev is)
 array_form_blind ev is h = search (blinding, items_blind) depth 12
 
 pub joined_blind : {own : Option (List ℕ)} (t : LabelledText) (a1 : List Tree) → IsBlind {A = LabelledText} own (joined t a1)
 joined_blind t [] = search blinding depth 12
-joined_blind t (v ∷ vs) = let ih = λ (y0 : LabelledText). joined_blind y0 vs in search (blinding, ih) depth 12
+joined_blind {own = own} t (v ∷ vs) = let ih = λ (y0 : LabelledText). joined_blind {own = own} y0 vs in search (blinding, ih) depth 12
 
 pub interpolated_blind : {own : Option (List ℕ)} (ev : Evals) (es : List Expr) → BlindEvals own ev → IsBlind {A = Value} own (interpolated ev es)
 interpolated_blind ev es h = search (blinding, charged_blind, given_blind, values_blind, joined_blind) depth 12
@@ -81,7 +81,7 @@ operation_form_blind {own = own} ev o h = elim (out-Operation o) as (λ x. IsBli
 
 pub all_set_blind : {own : Option (List ℕ)} (ev : Evals) (a1 : List Expr) → BlindEvals own ev → IsBlind {A = Value} own (all_set ev a1)
 all_set_blind ev [] h = search blinding depth 12
-all_set_blind ev (e ∷ es) h = let ih = all_set_blind ev es h in search (blinding, h.soft) depth 12
+all_set_blind {own = own} ev (e ∷ es) h = let ih = all_set_blind {own = own} ev es h in search (blinding, h.soft) depth 12
 
 pub test_form_blind : {own : Option (List ℕ)} (ev : Evals) (t : Test) → BlindEvals own ev → IsBlind {A = Value} own (test_form ev t)
 test_form_blind {own = own} ev t h = elim (out-Test t) as (λ x. IsBlind {A = Value} own (elim x [

@@ -54,7 +54,7 @@ put_data_blind ev path t flags k h = search (blinding, freeze_text_blind, keep_t
 
 pub put_contents_blind : {own : Option (List ℕ)} (ev : Evals) (path : List ℕ) (t : LabelledText) (flags : ℤ) → BlindEvals own ev → IsBlind {A = Tree} own (put_contents ev path t flags)
 put_contents_blind ev path t flags h =
-    at_lawful_blind path _ (λ k. blind_if _ _ _ (put_data_blind ev path t flags (lawful_seen _ path k) h) (search blinding))
+    at_lawful_blind path _ (λ k. blind_if (is_flag flags) (put_data ev path t flags) (thrown_new ValueError) (put_data_blind ev path t flags (lawful_seen _ path k) h) (search blinding))
 
 pub unlink_blind : {own : Option (List ℕ)} (path : List ℕ) → IsBlind {A = Tree} own (unlink path)
 unlink_blind path = at_lawful_blind path _ (λ k. blind_bind _ _ (blind_remove path (lawful_seen _ path k)) (λ b. blind_ended (Ok (boolean b))))

@@ -58,7 +58,7 @@ format_argument_blind ev format i t h = search (blinding, cast_argument_blind) d
 
 pub format_arguments_blind : {own : Option (List ℕ)} (ev : Evals) (format : LabelledText) (vs : List Tree) (i : ℕ) (a4 : List Tree) → BlindEvals own ev → IsBlind {A = (List Tree)} own (format_arguments ev format vs i a4)
 format_arguments_blind ev format vs i [] h = search blinding depth 12
-format_arguments_blind ev format vs i (t ∷ ts) h = let ih = λ (y2 : List Tree) (y3 : ℕ). format_arguments_blind ev format y2 y3 ts h in search (blinding, format_argument_blind, ih) depth 12
+format_arguments_blind {own = own} ev format vs i (t ∷ ts) h = let ih = λ (y2 : List Tree) (y3 : ℕ). format_arguments_blind {own = own} ev format y2 y3 ts h in search (blinding, format_argument_blind, ih) depth 12
 
 pub behind_format_blind : {own : Option (List ℕ)} (ev : Evals) (ts : List Tree) (t : Tree) → BlindEvals own ev → IsBlind {A = (List Tree)} own (behind_format ev ts t)
 behind_format_blind ev ts (text format) h = search (blinding, format_arguments_blind) depth 12
@@ -66,7 +66,7 @@ behind_format_blind ev ts t h = search blinding depth 12
 
 pub arguments_on_blind : {own : Option (List ℕ)} (ev : Evals) (b : Builtin) (vs : List Tree) (i : ℕ) (a4 : List Tree) → BlindEvals own ev → IsBlind {A = (List Tree)} own (arguments_on ev b vs i a4)
 arguments_on_blind ev b vs i [] h = search blinding depth 12
-arguments_on_blind ev b vs i (t ∷ ts) h = let ih = λ (y2 : List Tree) (y3 : ℕ). arguments_on_blind ev b y2 y3 ts h in search (blinding, argument_blind, ih) depth 12
+arguments_on_blind {own = own} ev b vs i (t ∷ ts) h = let ih = λ (y2 : List Tree) (y3 : ℕ). arguments_on_blind {own = own} ev b y2 y3 ts h in search (blinding, argument_blind, ih) depth 12
 
 pub sprintf_arguments_blind : {own : Option (List ℕ)} (ev : Evals) (a1 : List Tree) → BlindEvals own ev → IsBlind {A = (List Tree)} own (sprintf_arguments ev a1)
 sprintf_arguments_blind ev [] h = search blinding depth 12
@@ -86,7 +86,7 @@ pub builtin_blind : {own : Option (List ℕ)} (ev : Evals) (b : Builtin) (ts : L
 builtin_blind ev b ts h = search (blinding, counted_blind, arguments_blind, answer_set_blind) depth 12
 
 pub arguments_of_on_blind : {own : Option (List ℕ)} (ev : Evals) (vs : List Tree) (kinds : List ArgKind) (ts : List Tree) → BlindEvals own ev → IsBlind {A = (List Tree)} own (arguments_of_on ev vs kinds ts)
-arguments_of_on_blind ev vs (kind ∷ kinds) (t ∷ ts) h = let ih = λ (y1 : List Tree). arguments_of_on_blind ev y1 kinds ts h in search (blinding, argument_blind, ih) depth 12
+arguments_of_on_blind {own = own} ev vs (kind ∷ kinds) (t ∷ ts) h = let ih = λ (y1 : List Tree). arguments_of_on_blind {own = own} ev y1 kinds ts h in search (blinding, argument_blind, ih) depth 12
 arguments_of_on_blind ev vs kinds ts h = search blinding depth 12
 
 pub arguments_of_blind : {own : Option (List ℕ)} (ev : Evals) (kinds : List ArgKind) (ts : List Tree) → BlindEvals own ev → IsBlind {A = (List Tree)} own (arguments_of ev kinds ts)
@@ -130,7 +130,7 @@ state_work_blind f ts = search blinding depth 12
 
 pub take_all_blind : {own : Option (List ℕ)} (a0 : List Tree) → IsBlind {A = (Unit {0})} own (take_all a0)
 take_all_blind [] = search blinding depth 12
-take_all_blind (t ∷ ts) = let ih = take_all_blind ts in search blinding depth 12
+take_all_blind {own = own} (t ∷ ts) = let ih = take_all_blind {own = own} ts in search blinding depth 12
 
 pub state_function_blind : {own : Option (List ℕ)} (ev : Evals) (f : StateFunction) (ts : List Tree) → BlindEvals own ev → IsBlind {A = Value} own (state_function ev f ts)
 state_function_blind ev f ts h = search (blinding, counted_blind, arguments_of_blind, state_work_blind, take_all_blind) depth 12

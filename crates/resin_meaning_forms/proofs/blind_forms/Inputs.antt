@@ -28,7 +28,7 @@ filtered_text_blind ev context t h = search blinding depth 12
 
 pub filtered_entries_blind : {own : Option (List ℕ)} (filter : (Key → Tree → Prog Tree)) (a1 : EntryList) (a : Array) → ((x0 : Key) (x1 : Tree) → IsBlind own (filter x0 x1)) → IsBlind {A = Array} own (filtered_entries filter a1 a)
 filtered_entries_blind filter [] a h_filter = search blinding depth 12
-filtered_entries_blind filter (e ∷ es) a h_filter = let ih = λ (y2 : Array). filtered_entries_blind filter es y2 h_filter in search (blinding, ih) depth 12
+filtered_entries_blind {own = own} filter (e ∷ es) a h_filter = let ih = λ (y2 : Array). filtered_entries_blind {own = own} filter es y2 h_filter in search (blinding, ih) depth 12
 
 pub filtered_texts_blind : {own : Option (List ℕ)} (ev : Evals) (context : Value) (a : Array) → BlindEvals own ev → IsBlind {A = Array} own (filtered_texts ev context a)
 filtered_texts_blind ev context a h = search (blinding, filtered_text_blind, filtered_entries_blind) depth 12

@@ -53,11 +53,11 @@ argument_for_blind p None = search (blinding, default_value_blind) depth 12
 
 pub bind_blind : {own : Option (List ℕ)} (a0 : List Parameter) (vs : List Value) → IsBlind {A = (Unit {0})} own (bind a0 vs)
 bind_blind [] vs = search blinding depth 12
-bind_blind (p ∷ ps) vs = let ih = λ (y1 : List Value). bind_blind ps y1 in search (blinding, argument_for_blind, ih) depth 12
+bind_blind {own = own} (p ∷ ps) vs = let ih = λ (y1 : List Value). bind_blind {own = own} ps y1 in search (blinding, argument_for_blind, ih) depth 12
 
 pub block_blind : {own : Option (List ℕ)} (ev : Evals) (a1 : List Stmt) → BlindEvals own ev → IsBlind {A = Course} own (block ev a1)
 block_blind ev [] h = search blinding depth 12
-block_blind {own = own} ev (s ∷ ss) h = let ih = block_blind ev ss h in blind_bind _ _ (search (blinding, h.stmt) depth 12) (λ x. elim x as (λ y. IsBlind {A = Course} own (elim y [ Next ↦ block ev ss | Break ↦ give Break | Continue ↦ give Continue | Return v ↦ give (Return v) ])) [ Next ↦ search (blinding, h.stmt) depth 12 | Break ↦ search (blinding, h.stmt) depth 12 | Continue ↦ search (blinding, h.stmt) depth 12 | Return v ↦ search (blinding, h.stmt) depth 12 ])
+block_blind {own = own} ev (s ∷ ss) h = let ih = block_blind {own = own} ev ss h in blind_bind _ _ (search (blinding, h.stmt) depth 12) (λ x. elim x as (λ y. IsBlind {A = Course} own (elim y [ Next ↦ block ev ss | Break ↦ give Break | Continue ↦ give Continue | Return v ↦ give (Return v) ])) [ Next ↦ search (blinding, h.stmt) depth 12 | Break ↦ search (blinding, h.stmt) depth 12 | Continue ↦ search (blinding, h.stmt) depth 12 | Return v ↦ search (blinding, h.stmt) depth 12 ])
 
 pub own_body_blind : {own : Option (List ℕ)} (a0 : PreludeMethod) (this : ℕ) → IsBlind {A = Value} own (own_body a0 this)
 own_body_blind Construct this = search blinding depth 12

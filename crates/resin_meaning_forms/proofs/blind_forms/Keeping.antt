@@ -39,7 +39,7 @@ freeze_text_blind t = search (blinding, or_not_storable_blind) depth 12
 
 pub set_fields_blind : {own : Option (List ℕ)} (o : ℕ) (a1 : EntryList) → IsBlind {A = (Unit {0})} own (set_fields o a1)
 set_fields_blind o [] = search blinding depth 12
-set_fields_blind o (e ∷ es) = let ih = set_fields_blind o es in search blinding depth 12
+set_fields_blind {own = own} o (e ∷ es) = let ih = set_fields_blind {own = own} o es in search blinding depth 12
 
 pub make_policy_blind : {own : Option (List ℕ)} (class : ℕ) (fields : EntryList) → IsBlind {A = ℕ} own (make_policy class fields)
 make_policy_blind class fields = search (blinding, set_fields_blind) depth 12
@@ -60,7 +60,7 @@ thaw_policy_blind text = search (blinding, thaw_said_blind) depth 12
 
 pub thaw_policies_blind : {own : Option (List ℕ)} (so_far : List ℕ) (a1 : List (List ℕ)) → IsBlind {A = (List ℕ)} own (thaw_policies so_far a1)
 thaw_policies_blind so_far [] = search blinding depth 12
-thaw_policies_blind so_far (t ∷ ts) = let ih = λ (y0 : List ℕ). thaw_policies_blind y0 ts in search (blinding, thaw_policy_blind, ih) depth 12
+thaw_policies_blind {own = own} so_far (t ∷ ts) = let ih = λ (y0 : List ℕ). thaw_policies_blind {own = own} y0 ts in search (blinding, thaw_policy_blind, ih) depth 12
 
 pub thaw_marked_blind : {own : Option (List ℕ)} (d : Marked) → IsBlind {A = LabelledText} own (thaw_marked d)
 thaw_marked_blind d = search (blinding, thaw_policies_blind) depth 12

@@ -43,7 +43,7 @@ with_answer_blind so_far answer = search (blinding, policies_in_blind) depth 12
 
 pub ask_merges_blind : {own : Option (List ℕ)} (ev : Evals) (others : List ℕ) (a2 : List ℕ) (so_far : NumberSet) → BlindEvals own ev → IsBlind {A = NumberSet} own (ask_merges ev others a2 so_far)
 ask_merges_blind ev others [] so_far h = search blinding depth 12
-ask_merges_blind ev others (p ∷ ps) so_far h = let ih = λ (y3 : NumberSet). ask_merges_blind ev others ps y3 h in search (blinding, ask_merge_blind, with_answer_blind, ih) depth 12
+ask_merges_blind {own = own} ev others (p ∷ ps) so_far h = let ih = λ (y3 : NumberSet). ask_merges_blind {own = own} ev others ps y3 h in search (blinding, ask_merge_blind, with_answer_blind, ih) depth 12
 
 pub merge_lists_blind : {own : Option (List ℕ)} (ev : Evals) (a : List ℕ) (b : List ℕ) → BlindEvals own ev → IsBlind {A = NumberSet} own (merge_lists ev a b)
 merge_lists_blind ev a b h = search (blinding, ask_merges_blind) depth 12
@@ -53,7 +53,7 @@ merge_blind ev a b h = search (blinding, merge_lists_blind) depth 12
 
 pub fold_on_blind : {own : Option (List ℕ)} (ev : Evals) (so_far : NumberSet) (a2 : List NumberSet) → BlindEvals own ev → IsBlind {A = NumberSet} own (fold_on ev so_far a2)
 fold_on_blind ev so_far [] h = search blinding depth 12
-fold_on_blind ev so_far (s ∷ ss) h = let ih = λ (y1 : NumberSet). fold_on_blind ev y1 ss h in search (blinding, merge_blind, ih) depth 12
+fold_on_blind {own = own} ev so_far (s ∷ ss) h = let ih = λ (y1 : NumberSet). fold_on_blind {own = own} ev y1 ss h in search (blinding, merge_blind, ih) depth 12
 
 pub fold_sets_blind : {own : Option (List ℕ)} (ev : Evals) (a1 : List NumberSet) → BlindEvals own ev → IsBlind {A = NumberSet} own (fold_sets ev a1)
 fold_sets_blind ev [] h = search blinding depth 12

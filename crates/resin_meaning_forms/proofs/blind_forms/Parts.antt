@@ -27,7 +27,7 @@ charge_both_blind t u = search (blinding, charge_text_blind) depth 12
 
 pub charged_blind : {own : Option (List ℕ)} (a0 : List Tree) → IsBlind {A = (Unit {0})} own (charged a0)
 charged_blind [] = search blinding depth 12
-charged_blind (t ∷ ts) = let ih = charged_blind ts in search (blinding, charge_text_blind) depth 12
+charged_blind {own = own} (t ∷ ts) = let ih = charged_blind {own = own} ts in search (blinding, charge_text_blind) depth 12
 
 pub given_blind : {own : Option (List ℕ)} (t : Tree) → IsBlind {A = Value} own (given t)
 given_blind t = search (blinding, charge_text_blind) depth 12

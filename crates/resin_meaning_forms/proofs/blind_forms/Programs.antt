@@ -33,7 +33,7 @@ ticked_form_blind ev k h = search (blinding, stmt_form_blind) depth 12
 pub evals_blind : {own : Option (List ℕ)} (room : ℕ) → BlindEvals own (evals room)
 unfolding evals
 evals_blind zero = record { expr = λ e. search blinding; soft = λ e. search blinding; stmt = λ s. search blinding }
-evals_blind (suc room) = let ih = evals_blind room in record {
+evals_blind {own = own} (suc room) = let ih = evals_blind {own = own} room in record {
   expr = λ e. search (blinding, expr_form_blind) depth 12;
   soft = λ e. search (blinding, soft_form_blind) depth 12;
   stmt = λ s. search (blinding, ticked_form_blind) depth 12;

@@ -33,7 +33,7 @@ declare_blind (item.Statement s) = search blinding depth 12
 
 pub declare_all_blind : {own : Option (List ℕ)} (a0 : List Item) → IsBlind {A = (Unit {0})} own (declare_all a0)
 declare_all_blind [] = search blinding depth 12
-declare_all_blind (i ∷ is) = let ih = declare_all_blind is in search (blinding, declare_blind) depth 12
+declare_all_blind {own = own} (i ∷ is) = let ih = declare_all_blind {own = own} is in search (blinding, declare_blind) depth 12
 
 pub file_blind : {own : Option (List ℕ)} (ev : Evals) (p : Program) → BlindEvals own ev → IsBlind {A = Course} own (file ev p)
 file_blind ev p h = search (blinding, block_blind, declare_all_blind) depth 12

@@ -49,15 +49,15 @@ use Rattle.resin_meaning_forms.proofs.blind_forms.Invoke.{block_blind}
 
 pub echo_all_blind : {own : Option (List ℕ)} (ev : Evals) (a1 : List Expr) → BlindEvals own ev → IsBlind {A = Course} own (echo_all ev a1)
 echo_all_blind ev [] h = search blinding depth 12
-echo_all_blind ev (e ∷ es) h = let ih = echo_all_blind ev es h in search (blinding, echo_blind, h.expr) depth 12
+echo_all_blind {own = own} ev (e ∷ es) h = let ih = echo_all_blind {own = own} ev es h in search (blinding, echo_blind, h.expr) depth 12
 
 pub unset_all_blind : {own : Option (List ℕ)} (ev : Evals) (a1 : List Target) → BlindEvals own ev → IsBlind {A = Course} own (unset_all ev a1)
 unset_all_blind ev [] h = search blinding depth 12
-unset_all_blind ev (t ∷ ts) h = let ih = unset_all_blind ev ts h in search (blinding, steps_blind) depth 12
+unset_all_blind {own = own} ev (t ∷ ts) h = let ih = unset_all_blind {own = own} ev ts h in search (blinding, steps_blind) depth 12
 
 pub bind_all_blind : {own : Option (List ℕ)} (a0 : List (List ℕ)) → IsBlind {A = Course} own (bind_all a0)
 bind_all_blind [] = search blinding depth 12
-bind_all_blind (x ∷ xs) = let ih = bind_all_blind xs in search blinding depth 12
+bind_all_blind {own = own} (x ∷ xs) = let ih = bind_all_blind {own = own} xs in search blinding depth 12
 
 pub throw_blind : {own : Option (List ℕ)} (v : Value) → IsBlind {A = Course} own (throw v)
 throw_blind v = search blinding depth 12
@@ -84,7 +84,7 @@ other_branch_blind ev (Some s) h = search (blinding, h.stmt) depth 12
 
 pub branches_blind : {own : Option (List ℕ)} (ev : Evals) (other : Option Stmt) (a2 : List Branch) → BlindEvals own ev → IsBlind {A = Course} own (branches ev other a2)
 branches_blind ev other [] h = search (blinding, other_branch_blind) depth 12
-branches_blind ev other (b ∷ bs) h = let ih = branches_blind ev other bs h in search (blinding, h.expr, h.stmt) depth 12
+branches_blind {own = own} ev other (b ∷ bs) h = let ih = branches_blind {own = own} ev other bs h in search (blinding, h.expr, h.stmt) depth 12
 
 pub going_on_blind : {own : Option (List ℕ)} (further : Prog Course) (a1 : Option Course) → IsBlind own further → IsBlind {A = Course} own (going_on further a1)
 going_on_blind further None h_further = search blinding depth 12
@@ -95,22 +95,22 @@ turn_blind ev body further h h_further = search (blinding, going_on_blind, h.stm
 
 pub while_turns_blind : {own : Option (List ℕ)} (a0 : ℕ) (ev : Evals) (e : Expr) (body : Stmt) → BlindEvals own ev → IsBlind {A = Course} own (while_turns a0 ev e body)
 while_turns_blind zero ev e body h = search blinding depth 12
-while_turns_blind (suc n) ev e body h = let ih = while_turns_blind n ev e body h in search (blinding, turn_blind, h.expr) depth 12
+while_turns_blind {own = own} (suc n) ev e body h = let ih = while_turns_blind {own = own} n ev e body h in search (blinding, turn_blind, h.expr) depth 12
 
 pub while_loop_blind : {own : Option (List ℕ)} (ev : Evals) (e : Expr) (body : Stmt) → BlindEvals own ev → IsBlind {A = Course} own (while_loop ev e body)
 while_loop_blind ev e body h = search (blinding, while_turns_blind, blind_by_ticks) depth 12
 
 pub last_holds_blind : {own : Option (List ℕ)} (ev : Evals) (so_far : Bool) (a2 : List Expr) → BlindEvals own ev → IsBlind {A = Bool} own (last_holds ev so_far a2)
 last_holds_blind ev so_far [] h = search blinding depth 12
-last_holds_blind ev so_far (e ∷ es) h = let ih = λ (y1 : Bool). last_holds_blind ev y1 es h in search (blinding, h.expr, ih) depth 12
+last_holds_blind {own = own} ev so_far (e ∷ es) h = let ih = λ (y1 : Bool). last_holds_blind {own = own} ev y1 es h in search (blinding, h.expr, ih) depth 12
 
 pub run_all_blind : {own : Option (List ℕ)} (ev : Evals) (a1 : List Expr) → BlindEvals own ev → IsBlind {A = (Unit {0})} own (run_all ev a1)
 run_all_blind ev [] h = search blinding depth 12
-run_all_blind ev (e ∷ es) h = let ih = run_all_blind ev es h in search (blinding, h.expr) depth 12
+run_all_blind {own = own} ev (e ∷ es) h = let ih = run_all_blind {own = own} ev es h in search (blinding, h.expr) depth 12
 
 pub for_turns_blind : {own : Option (List ℕ)} (a0 : ℕ) (ev : Evals) (tests : List Expr) (steps : List Expr) (body : Stmt) → BlindEvals own ev → IsBlind {A = Course} own (for_turns a0 ev tests steps body)
 for_turns_blind zero ev tests steps body h = search blinding depth 12
-for_turns_blind (suc n) ev tests steps body h = let ih = for_turns_blind n ev tests steps body h in search (blinding, turn_blind, last_holds_blind, run_all_blind) depth 12
+for_turns_blind {own = own} (suc n) ev tests steps body h = let ih = for_turns_blind {own = own} n ev tests steps body h in search (blinding, turn_blind, last_holds_blind, run_all_blind) depth 12
 
 pub for_loop_blind : {own : Option (List ℕ)} (ev : Evals) (tests : List Expr) (steps : List Expr) (body : Stmt) → BlindEvals own ev → IsBlind {A = Course} own (for_loop ev tests steps body)
 for_loop_blind ev tests steps body h = search (blinding, blind_by_ticks, for_turns_blind) depth 12
@@ -124,7 +124,7 @@ assign_entry_blind kx x e = search (blinding, assign_key_blind) depth 12
 
 pub each_entry_blind : {own : Option (List ℕ)} (ev : Evals) (kx : Option (List ℕ)) (x : List ℕ) (body : Stmt) (a4 : EntryList) → BlindEvals own ev → IsBlind {A = Course} own (each_entry ev kx x body a4)
 each_entry_blind ev kx x body [] h = search blinding depth 12
-each_entry_blind ev kx x body (e ∷ es) h = let ih = each_entry_blind ev kx x body es h in search (blinding, turn_blind, assign_entry_blind) depth 12
+each_entry_blind {own = own} ev kx x body (e ∷ es) h = let ih = each_entry_blind {own = own} ev kx x body es h in search (blinding, turn_blind, assign_entry_blind) depth 12
 
 pub foreach_blind : {own : Option (List ℕ)} (ev : Evals) (kx : Option (List ℕ)) (x : List ℕ) (body : Stmt) (v : Value) → BlindEvals own ev → IsBlind {A = Course} own (foreach ev kx x body v)
 foreach_blind ev kx x body (Arr a) h = search (blinding, each_entry_blind) depth 12
@@ -145,7 +145,7 @@ loop_form_blind {own = own} ev l h = elim (out-Loop l) as (λ x. IsBlind {A = Co
 
 pub chosen_blind : {own : Option (List ℕ)} (ev : Evals) (v : Value) (default : List Case) (a3 : List Case) → BlindEvals own ev → IsBlind {A = (List Case)} own (chosen ev v default a3)
 chosen_blind ev v default [] h = search blinding depth 12
-chosen_blind {own = own} ev v default (c ∷ cs) h = let ih = chosen_blind ev v default cs h in elim (out-Case c).condition as (λ x. IsBlind {A = (List Case)} own (elim x [
+chosen_blind {own = own} ev v default (c ∷ cs) h = let ih = chosen_blind {own = own} ev v default cs h in elim (out-Case c).condition as (λ x. IsBlind {A = (List Case)} own (elim x [
   | None ↦ chosen ev v default cs
   | Some e ↦ (do
     w ← ev.expr e
@@ -158,7 +158,7 @@ chosen_blind {own = own} ev v default (c ∷ cs) h = let ih = chosen_blind ev v 
 
 pub run_cases_blind : {own : Option (List ℕ)} (ev : Evals) (a1 : List Case) → BlindEvals own ev → IsBlind {A = Course} own (run_cases ev a1)
 run_cases_blind ev [] h = search blinding depth 12
-run_cases_blind {own = own} ev (c ∷ cs) h = let ih = run_cases_blind ev cs h in blind_bind _ _ (search (blinding, block_blind) depth 12) (λ x. elim x as (λ y. IsBlind {A = Course} own (elim y [ Next ↦ run_cases ev cs | Break ↦ give Next | Continue ↦ give Next | Return v ↦ give (Return v) ])) [ Next ↦ search (blinding, block_blind) depth 12 | Break ↦ search (blinding, block_blind) depth 12 | Continue ↦ search (blinding, block_blind) depth 12 | Return v ↦ search (blinding, block_blind) depth 12 ])
+run_cases_blind {own = own} ev (c ∷ cs) h = let ih = run_cases_blind {own = own} ev cs h in blind_bind _ _ (search (blinding, block_blind) depth 12) (λ x. elim x as (λ y. IsBlind {A = Course} own (elim y [ Next ↦ run_cases ev cs | Break ↦ give Next | Continue ↦ give Next | Return v ↦ give (Return v) ])) [ Next ↦ search (blinding, block_blind) depth 12 | Break ↦ search (blinding, block_blind) depth 12 | Continue ↦ search (blinding, block_blind) depth 12 | Return v ↦ search (blinding, block_blind) depth 12 ])
 
 pub switch_blind : {own : Option (List ℕ)} (ev : Evals) (e : Expr) (cs : List Case) → BlindEvals own ev → IsBlind {A = Course} own (switch ev e cs)
 switch_blind ev e cs h = search (blinding, chosen_blind, run_cases_blind, h.expr) depth 12

@@ -24,7 +24,7 @@ step_blind {own = own} ev path s h = elim (out-PathStep s) as (λ x. IsBlind {A 
 
 pub steps_on_blind : {own : Option (List ℕ)} (ev : Evals) (path : Path) (a2 : List PathStep) → BlindEvals own ev → IsBlind {A = Path} own (steps_on ev path a2)
 steps_on_blind ev path [] h = search blinding depth 12
-steps_on_blind ev path (s ∷ ss) h = let ih = λ (y1 : Path). steps_on_blind ev y1 ss h in search (blinding, step_blind, ih) depth 12
+steps_on_blind {own = own} ev path (s ∷ ss) h = let ih = λ (y1 : Path). steps_on_blind {own = own} ev y1 ss h in search (blinding, step_blind, ih) depth 12
 
 pub steps_blind : {own : Option (List ℕ)} (ev : Evals) (ss : List PathStep) → BlindEvals own ev → IsBlind {A = Path} own (steps ev ss)
 steps_blind ev ss h = search (blinding, steps_on_blind) depth 12
