@@ -162,7 +162,7 @@ fn serve_in_session<F: Files, T: Tables>(
     path: &[u8],
     e: &Entry,
 ) -> Result<(), Stop>
-    ensures { Performs F.Files T.Tables (in_session (option_map (λ n. n.now) session) (serve_and_end path.now (lift e.now))) run.old result run.new }
+    ensures { Performs F.Files T.Tables (in_session (option_map (λ n. n.now) session.entry) (serve_and_end path.now (lift e.now))) run.old result run.new }
 {
     match session {
         Some(name) => serve_named(alloc, run, name, path, e),

@@ -66,7 +66,7 @@ fn named_in(value: &Value) -> Option<&[u8]>
 
 // The session that a cookie names, if there is one that does.
 fn named_by(cookie: Option<&Value>) -> Option<&[u8]>
-    ensures { option_map (λ n. n.now) result ≡ spec.named_by (option_map (λ v. tree_of v.now) cookie) }
+    ensures { option_map (λ n. n.now) result ≡ spec.named_by (option_map (λ v. tree_of v.now) cookie.entry) }
 {
     match cookie {
         Some(value) => named_in(value),
