@@ -1,5 +1,5 @@
 -- What the steps of sessions do, in the words of their programs.
-use Rattle.std.proofs.Common.{◌≡◌, ℕ, ℤ, Bool, true, false, cond, ◌<◌, ◌≤◌, List, [], ◌∷◌, length, Option, Some, None, Result, Ok, Err, inl, refl, sym, ap, subst, ◌∙◌, arith, IsErrAnd}
+use Rattle.std.proofs.Common.{◌≡◌, ℕ, ℤ, Bool, true, false, cond, ◌&&◌, ◌<◌, ◌≤◌, List, [], ◌∷◌, length, Option, Some, None, Result, Ok, Err, inl, refl, sym, ap, subst, ◌∙◌, arith, IsErrAnd}
 use Rattle.std.specs.List.{list_all, AllByRecursion}
 use Rattle.std.specs.Option.{option_map}
 use Rattle.std.specs.Prelude.{nat_le}
@@ -65,7 +65,7 @@ kept_storable (object n) k = absurd k
 
 all_storable : (es : EntryList) → AllByRecursion (λ e. IsKept e.1) es → list_all (λ e. is_storable e.1) es ≡ true
 all_storable [] k = refl
-all_storable (e ∷ es) k = ap (λ b. cond b (list_all (λ e. is_storable e.1) es) false) (kept_storable e.1 k.0) ∙ all_storable es k.1
+all_storable (e ∷ es) k = ap (λ b. b && list_all (λ e. is_storable e.1) es) (kept_storable e.1 k.0) ∙ all_storable es k.1
 
 at_most : (n : ℕ) → n ≤ LONGEST → nat_le n LONGEST ≡ true
 at_most n h = grind arith

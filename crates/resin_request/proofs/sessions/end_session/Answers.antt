@@ -5,10 +5,11 @@ use Rattle.resin_request.proofs.sessions.end_session.Goals as goal
 
 pub returns-in_err-text : goal.returns-in_err-text
 returns-in_err-text g c =
-    does_next _ _ (does_looked _ _ refl)
-    (does_exit _ _ _ c.from_residual.ensures.1 (does_settled _ _ (rw c.session.ensures at c.text_of_value-kept.ensures) c.in_err-text.ensures.acts))
+    does_exit _ _ _ c.from_residual.ensures.1
+    (does_next _ _ (does_looked _ _ refl) (does_settled _ _ (rw c.session.ensures at c.text_of_value-kept.ensures) c.in_err-text.ensures.acts))
 
 pub returns : goal.returns
 returns g c =
-    does_next _ _ (does_looked _ _ refl)
-    (does_next _ _ (does_settled _ _ (rw c.session.ensures at c.text_of_value-kept.ensures) c.in_ok-text.ensures.acts) c.keep_text.ensures)
+    does_next _ _
+    (does_next _ _ (does_looked _ _ refl) (does_settled _ _ (rw c.session.ensures at c.text_of_value-kept.ensures) c.in_ok-text.ensures.acts))
+    c.keep_text.ensures

@@ -28,4 +28,4 @@ returns g c =
     let d = are_written (record { bytes = c.bytes.result.now; marks = c.in_ok-marks.marks }) _ _ (rw c.bytes.ensures (frozen_length _ _ c.in_ok-marks.ensures))
     c.len-len.ensures.marks refl (c.as_slice-2.ensures ∙ c.in_ok-shadow.ensures) short in
     does_next _ _ (does_act _ _ _ _ (rw c.len.ensures.value at c.in_ok-charge_bytes.ensures))
-    (does_next _ _ (c.in_ok-marks.ensures _ _ _) (rw (c.bytes.ensures, c.as_slice.ensures, c.in_ok-path.ensures) at (c.write_changed.ensures _ d)))
+    (does_next _ _ (c.in_ok-marks.ensures _ _ _) (rw (c.bytes.ensures, c.as_slice.ensures.value ∙ c.in_ok-path.ensures) at (c.write_changed.ensures _ d)))
