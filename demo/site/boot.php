@@ -11,6 +11,16 @@ class PasswordPolicy extends Policy {
     }
 }
 
+// A visitor's note leaves to the session that it was written in.
+class OwnNote extends Policy {
+    public $of;
+    function __construct($of) { $this->of = $of; }
+    function export_check($context) {
+        if (($_COOKIE['sid'] ?? '') === $this->of) return;
+        throw new PolicyException('a note of somebody else');
+    }
+}
+
 // Marks what came with a request. It may leave, but begins no tag of a page.
 class FromOutside extends Policy { }
 

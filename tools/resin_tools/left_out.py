@@ -59,10 +59,9 @@ OTHERWISE = [
         rf"▸\$(?-i:_SERVER) \[ (?!['\"]({'|'.join(sorted(SERVER_KEYS))})['\"])['\"]",
     ),
     Row(
-        "`$_SESSION`",
-        "",
-        "an ordinary variable, seen in one function alone: nothing is kept in it yet",
-        r"▸\$(?-i:_SESSION) ",
+        "`$_SESSION` holds values of any kind, once `session_start` was called",
+        "a value of its own for each item",
+        "it is there without a call, and keeps integers and texts alone: anything else is the fault `NotStorable` when the page ends",
     ),
     Row("undefined variables, keys and properties", "`isset`", "null without a warning"),
     Row("`$s[5]` behind the end is `''`, with a warning", "`$s[5] ?? ''`", "null"),
@@ -272,7 +271,7 @@ NAMES = [
     ),
     Row(
         "`session_start`, `session_destroy`, `session_id`",
-        "nothing yet",
+        "nothing to begin; to end, `$_SESSION = []`; the name is `$_COOKIE['sid']`",
         functions="session_start session_destroy session_id session_name session_regenerate_id session_unset session_write_close",
     ),
     Row(

@@ -307,7 +307,7 @@ class Instead(unittest.TestCase):
         places = [(it.line, it.column, it.words.partition(":")[0], it.is_error) for it in found]
         wanted = [(1, 1, "this is text, which is sent as it stands"), (1, 57, "`public static $n = 0;`"), (1, 93, "`__get`, `__set`, `__call`, `__destruct` and other methods with `__`")]
         supers = "`$GLOBALS`, `$_REQUEST`, `$_FILES`, `$_ENV`"
-        wanted += [(2, 6, supers), (2, 21, supers), (2, 37, "`$_SERVER['HTTP_HOST']` and its kin"), (3, 1, "`$_SESSION`")]
+        wanted += [(2, 6, supers), (2, 21, supers), (2, 37, "`$_SERVER['HTTP_HOST']` and its kin")]
         self.assertEqual(places, [(*it, False) for it in wanted])
         self.assertEqual([it.notes for it in found][1:3], [("instead: a variable, by `global $n;`",), ("instead: a method that is called by its name",)])
 

@@ -10,3 +10,6 @@ pub mod Shapes
 -- Passed on to the crates above, which list this one alone.
 pub use Rattle.resin_eval_calls.proofs.eval_nested_lemmas
 pub use Rattle.resin_eval_calls.proofs.meaning_lemmas
+pub use Rattle.resin_eval_calls.proofs.holding_lemmas
+pub use Rattle.resin_eval_calls.proofs.blindness_lemmas
+pub use Rattle.resin_eval_calls.proofs.blind_form_lemmas

@@ -1,6 +1,7 @@
 -- The state of a request while its scripts run (this project).
 use Rattle.std.specs.Prelude.{ℕ, Bool, false, List, [], ◌∷◌, codes, Option, None}
 use Rattle.std.specs.FinMap.{empty, insert}
+use Rattle.resin_heap.specs.Under.value.declared.value.Value.{Value}
 use Rattle.resin_heap.specs.Under.value.declared.value.Value.TheVariants.{Arr}
 use Rattle.resin_heap.specs.Under.value.Changes.{empty as empty_array}
 use Rattle.resin_heap.specs.Under.tree.declared.declaration.Function.{Function}
@@ -31,6 +32,8 @@ pub record State : Type 0 where
   pub imported : NameSet
   -- `$_GET`, `$_POST`, `$_COOKIE` and `$_SERVER`, which are visible everywhere
   pub inputs : Variables
+  -- `$_SESSION`, which is visible everywhere too; null where a script unset it
+  pub session : Value
   -- how many ticks are left
   pub ticks : ℕ
   -- whether a check, a merge or a filter runs that the runtime called
@@ -61,6 +64,7 @@ new_state fuel request = record {
   stage = new_stage;
   imported = insert empty (codes "boot.php") tt;
   inputs = empty_arrays input_names;
+  session = Arr empty_array;
   ticks = fuel;
   checking = false;
   line = 0;

@@ -247,6 +247,7 @@ impl Machine {
             stage,
             imported: _,
             inputs: _,
+            session: _,
             ticks: _,
             checking: _,
             line: _,

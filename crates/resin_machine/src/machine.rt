@@ -33,6 +33,7 @@ pub struct Machine {
     pub(crate) stage: Stage,
     pub(crate) imported: NameMap<()>,
     pub(crate) inputs: NameMap<Value>,
+    pub(crate) session: Value,
     pub(crate) ticks: Ticks,
     pub(crate) checking: bool,
     pub(crate) line: u32,
@@ -64,6 +65,7 @@ impl Model for Machine {
       stage = m.stage;
       imported = m.imported;
       inputs = m.inputs;
+      session = m.session;
       ticks = m.ticks.left;
       checking = m.checking;
       line = m.line;
@@ -101,6 +103,7 @@ impl Machine {
         let mut imported = NameMap::new(alloc);
         imported.put(b"boot.php", ())?;
         let inputs = empty_inputs(alloc)?;
+        let session = Value::Arr(Arr::new(alloc)?);
         Ok(Machine {
             alloc,
             scopes,
@@ -112,6 +115,7 @@ impl Machine {
             stage: Stage::new(alloc),
             imported,
             inputs,
+            session,
             ticks: Ticks {
                 left: u64::from(fuel),
             },

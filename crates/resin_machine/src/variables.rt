@@ -1,15 +1,17 @@
 //! Variables and calls.
-ghost use Rattle.std.specs.Prelude.{◌≡◌, ◌<◌, length, unwrap_or, Err, IfOk, OnErr};
+ghost use Rattle.std.specs.Prelude.{◌≡◌, ◌<◌, length, unwrap_or, Ok, Err, IfOk, OnErr};
 ghost use Rattle.std.specs.Option.{option_copied};
 ghost use Rattle.resin_heap.specs.Under.value.declared.value.Value.{Value as AnyValue};
 ghost use Rattle.resin_stage.specs.Under.scope.Frames.{left};
 ghost use Rattle.resin_machine.specs.Keeping.{IsInside};
 ghost use Rattle.resin_machine.specs.Steps.{Acts};
 ghost use Rattle.resin_machine.specs.Variables.{is_input, variable, read, assign, taken_from, without_variable, bind_global, in_call};
+ghost use Rattle.resin_machine.specs.Variables.{is_session, set_session};
 
 use crate::machine::Machine;
 use crate::stop::Stop;
-use resin_heap::under::value::Value;
+use resin_heap::under::value::{Arr, Value};
+use std::mem;
 
 // Whether a name is that of an input.
 fn is_input(name: &[u8]) -> bool
@@ -21,6 +23,13 @@ fn is_input(name: &[u8]) -> bool
         || name == b"_SERVER".as_slice()
 }
 
+// Whether a name is that of `$_SESSION`.
+fn is_session(name: &[u8]) -> bool
+    ensures { result ≡ is_session name.now }
+{
+    name == b"_SESSION".as_slice()
+}
+
 impl Machine {
     /// The value of a variable, `None` exactly where there is none of that name.
     pub fn variable(&self, name: &[u8]) -> Option<&Value>
@@ -28,6 +37,8 @@ impl Machine {
     {
         if is_input(name) {
             self.inputs.get(name)
+        } else if is_session(name) {
+            Some(&self.session)
         } else {
             self.scopes.get(name)
         }
@@ -51,6 +62,10 @@ impl Machine {
             self.inputs.put(name, v)?;
             return Ok(());
         }
+        if is_session(name) {
+            self.session = v;
+            return Ok(());
+        }
         self.scopes.set(name, v)?;
         Ok(())
     }
@@ -68,10 +83,14 @@ impl Machine {
         if is_input(name) {
             return self.inputs.exchange(name, Value::Null);
         }
+        if is_session(name) {
+            return mem::replace(&mut self.session, Value::Null);
+        }
         self.scopes.exchange(name, Value::Null)
     }
 
-    /// Takes a variable out. Of a name that `global` bound in the innermost call the binding ends alone. It takes no memory.
+    /// Takes a variable out. Of a name that `global` bound in the innermost call the binding ends alone; `$_SESSION` is null then. It takes no
+    /// memory.
     pub fn unset(&mut self, name: &[u8])
         ensures after { self.new ≡ without_variable name.now self.old }
         ensures inside { IsInside self.old self.new }
@@ -80,18 +99,40 @@ impl Machine {
             self.inputs.remove(name);
             return;
         }
+        if is_session(name) {
+            self.session = Value::Null;
+            return;
+        }
         self.scopes.unset(name);
     }
 
-    /// Binds a name of the innermost call to the variable of the top level, as `global` does. At the top level, and for an input, nothing happens.
+    /// Binds a name of the innermost call to the variable of the top level, as `global` does. At the top level, for an input and for `$_SESSION`
+    /// nothing happens.
     pub fn bind_global(&mut self, name: &[u8]) -> Result<(), Stop>
         ensures acts { Acts (bind_global name.now) self.old result self.new }
     {
         if is_input(name) {
             return Ok(());
         }
+        if is_session(name) {
+            return Ok(());
+        }
         self.scopes.bind(name)?;
         Ok(())
+    }
+
+    /// `$_SESSION`, null where a script unset it.
+    pub fn session(&self) -> &Value
+        ensures { result.now ≡ self.now.session }
+    {
+        &self.session
+    }
+
+    /// Makes `$_SESSION` this array. It takes no memory.
+    pub fn set_session(&mut self, a: Arr)
+        ensures acts { Acts (set_session a) self.old (Ok tt) self.new }
+    {
+        self.session = Value::Arr(a);
     }
 
     /// How many calls are open.

@@ -23,5 +23,7 @@ pub mod Expressions
 pub mod Statements
 pub mod Programs
 pub mod Runs
+pub mod Sessions
+pub mod Blindness
 pub mod Forms
 pub mod Under

@@ -1,4 +1,5 @@
 pub mod Paths
 pub mod Sources
+pub mod Sessions
 pub mod Requests
 pub mod Under

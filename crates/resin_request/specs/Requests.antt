@@ -16,6 +16,7 @@ use Rattle.resin_interp.specs.Pages.{write_page, end_buffers}
 use Rattle.resin_request.specs.declared.request.Finish.{Finish}
 use Rattle.resin_request.specs.declared.request.Finish.TheVariants.{Answered, Missing}
 use Rattle.resin_request.specs.Paths.{boot_path, is_open, is_script}
+use Rattle.resin_request.specs.Sessions.{session_of, in_session}
 use Rattle.resin_request.specs.Sources.{run_source}
 
 -- the file that runs before each request, where it is there. Its top-level `return`, or an `exit` anywhere, ends it alone
@@ -42,17 +43,21 @@ send_file path e = thaw_entry e >>= λ t. read_through (evals most_open) File (p
 abbrev pub serve_file : List ℕ → LabelledEntry → Prog (Unit {0})
 serve_file path e = if is_script path then run_script path e else send_file path e
 
+-- the file of the request runs, or goes out, and then what open buffers hold
+abbrev pub serve_and_end : List ℕ → LabelledEntry → Prog (Unit {0})
+serve_and_end path e = serve_file path e >> end_buffers
+
 -- the steps behind the first read
 abbrev pub serve_found : List ℕ → InputArrays → Option LabelledEntry → Prog Finish
 serve_found path inputs None = give Missing
 serve_found path inputs (Some e) = do
   run_boot
   put_inputs inputs
-  serve_file path e
-  end_buffers
+  in_session (session_of inputs) (serve_and_end path e)
   give Answered
 
 -- One request for a path; where the path isn't open to requests, nothing is read. The file is read; where there is none, nothing else happens.
--- `boot.php` runs, with empty inputs. The inputs are set. The file runs, or goes out. What open buffers hold goes out.
+-- `boot.php` runs, with empty inputs and an empty `$_SESSION`. The inputs are set. What is kept of the request's session becomes `$_SESSION`. The
+-- file runs, or goes out. What open buffers hold goes out. What `$_SESSION` holds is kept.
 abbrev pub request_program : List ℕ → InputArrays → Prog Finish
 request_program path inputs = if is_open path then read_file path >>= serve_found path inputs else give Missing

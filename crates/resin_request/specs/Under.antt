@@ -8,6 +8,7 @@ pub use Rattle.resin_inputs.specs.Under.label
 pub use Rattle.resin_inputs.specs.Under.lstr
 pub use Rattle.resin_interp.specs.Under.machine
 pub use Rattle.resin_interp.specs.Under.meaning
+pub use Rattle.resin_interp.specs.Under.meaning_forms
 pub use Rattle.resin_inputs.specs.Under.scalar
 pub use Rattle.resin_interp.specs.Under.stage
 pub use Rattle.resin_interp.specs.Under.store

@@ -1,13 +1,17 @@
 //! One request.
 ghost use Rattle.std.specs.Prelude.{Some};
+ghost use Rattle.std.specs.Option.{option_map};
 ghost use Rattle.resin_inputs.specs.Under.lstr.Texts.{bytes_of};
 ghost use Rattle.resin_interp.specs.Under.meaning.Runs.{Does, files_seen, seen, world};
 ghost use Rattle.resin_interp.specs.Under.eval_nested.Running.{Performs};
 ghost use Rattle.resin_interp.specs.Under.store.Entries.{lift};
-ghost use Rattle.resin_request.specs.Requests.{put_inputs, request_program, run_boot, run_found, run_script, send_file, serve_file, serve_found};
+ghost use Rattle.resin_request.specs.Requests.{put_inputs, request_program, run_boot, run_found, run_script, send_file};
+ghost use Rattle.resin_request.specs.Requests.{serve_and_end, serve_file, serve_found};
+ghost use Rattle.resin_request.specs.Sessions.{in_session, session_of};
 ghost use Rattle.resin_request.specs.Sources.{run_source};
 
 use crate::paths::{BOOT_PATH, is_open, is_script};
+use crate::sessions::{begin_session, end_session, session_of};
 use resin_inputs::InputArrays;
 use resin_inputs::under::lstr::LText;
 use resin_interp::inputs::set_inputs;
@@ -122,6 +126,64 @@ fn serve_file<F: Files, T: Tables>(
     }
 }
 
+// The file of the request runs, or goes out, and then what open buffers hold.
+fn serve_and_end<F: Files, T: Tables>(
+    alloc: Global,
+    run: &mut Run<F, T>,
+    path: &[u8],
+    e: &Entry,
+) -> Result<(), Stop>
+    ensures { Performs F.Files T.Tables (serve_and_end path.now (lift e.now)) run.old result run.new }
+{
+    serve_file(alloc, run, path, e)?;
+    end_buffers(alloc, run)
+}
+
+// The same in a session.
+fn serve_named<F: Files, T: Tables>(
+    alloc: Global,
+    run: &mut Run<F, T>,
+    name: &[u8],
+    path: &[u8],
+    e: &Entry,
+) -> Result<(), Stop>
+    ensures { Performs F.Files T.Tables (in_session (Some name.now) (serve_and_end path.now (lift e.now))) run.old result run.new }
+{
+    let found = begin_session(alloc, run, name)?;
+    serve_and_end(alloc, run, path, e)?;
+    end_session(alloc, run, name, &found)
+}
+
+// The same in the session that there is, if there is one.
+fn serve_in_session<F: Files, T: Tables>(
+    alloc: Global,
+    run: &mut Run<F, T>,
+    session: Option<&[u8]>,
+    path: &[u8],
+    e: &Entry,
+) -> Result<(), Stop>
+    ensures { Performs F.Files T.Tables (in_session (option_map (λ n. n.now) session.entry) (serve_and_end path.now (lift e.now))) run.old result run.new }
+{
+    match session {
+        Some(name) => serve_named(alloc, run, name, path, e),
+        None => serve_and_end(alloc, run, path, e),
+    }
+}
+
+// The same in the session of these inputs.
+fn serve_for<F: Files, T: Tables>(
+    alloc: Global,
+    run: &mut Run<F, T>,
+    path: &[u8],
+    inputs: &InputArrays,
+    e: &Entry,
+) -> Result<(), Stop>
+    ensures { Performs F.Files T.Tables (in_session (session_of inputs.now) (serve_and_end path.now (lift e.now))) run.old result run.new }
+{
+    let session = session_of(alloc, inputs)?;
+    serve_in_session(alloc, run, session, path, e)
+}
+
 // The steps behind the first read, where the file is there.
 fn serve_entry<F: Files, T: Tables>(
     alloc: Global,
@@ -134,8 +196,7 @@ fn serve_entry<F: Files, T: Tables>(
 {
     run_boot(alloc, run)?;
     put_inputs(alloc, run, inputs)?;
-    serve_file(alloc, run, path, e)?;
-    end_buffers(alloc, run)?;
+    serve_for(alloc, run, path, inputs, e)?;
     Ok(Finish::Answered)
 }
 
@@ -158,11 +219,11 @@ fn perform_request<F: Files, T: Tables>(
     }
 }
 
-/// One request for a path, from the state in which a request begins. A path that isn't open to requests is missing, and nothing is read. The file
-/// is read; where there is none, nothing else happens. `boot.php`
-/// is read and, where it is there, runs with empty inputs: its top-level `return`, or an `exit` anywhere, ends it alone. The inputs pass the filters of `input`, and are
-/// set. A script passes the filters of `code`, and runs; another file passes those of `file`, and goes out as one write on `http`. What open output buffers hold goes out
-/// as one more write.
+/// One request for a path, from the state in which a request begins. A path that isn't open to requests is missing, and nothing is read. The file is
+/// read; where there is none, nothing else happens. `boot.php` is read and, where it is there, runs with empty inputs: its top-level `return`, or an
+/// `exit` anywhere, ends it alone. The inputs pass the filters of `input`, and are set. What is kept of the session that the cookie `sid` names,
+/// before those filters, becomes `$_SESSION`. A script passes the filters of `code`, and runs; another file passes those of `file`, and goes out as
+/// one write on `http`. What open output buffers hold goes out as one more write. What `$_SESSION` holds is kept, by a write where it changed.
 ///
 /// # Errors
 ///

@@ -3,4 +3,5 @@ pub mod Outcomes
 pub mod Laws
 pub mod Replies
 pub mod Serving
+pub mod Isolation
 pub mod Under

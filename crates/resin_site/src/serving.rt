@@ -2,6 +2,7 @@
 ghost use Rattle.std.specs.Prelude.{◌≡◌, ◌≤◌, List, ℕ, IfOk};
 ghost use Rattle.resin_request.specs.Under.base.Numbering.{AreNumbered};
 ghost use Rattle.resin_request.specs.Under.meaning.Programs.{KeeperCall};
+ghost use Rattle.resin_site.specs.Isolation.{IsIsolated};
 ghost use Rattle.resin_site.specs.Keeping.{Later, Passes, Tells, Blames, answers, faults, store_of};
 ghost use Rattle.resin_site.specs.Laws.{IsLawful};
 ghost use Rattle.resin_site.specs.Replies.{is_head};
@@ -16,7 +17,11 @@ use resin_request::{path_of, run_request};
 use std::alloc::{AllocError, Global};
 
 /// Serves one request; `number` is its number in its mail and its log. The runtime reads the file that the target asks for, runs `boot.php`, sets
-/// the inputs behind their filters, and runs the file where it is a script, or sends it.
+/// the inputs behind their filters, makes what is kept of the request's session `$_SESSION`, runs the file where it is a script, or sends it, and
+/// keeps what `$_SESSION` holds then.
+///
+/// A request has the session that its cookie `sid` names by 32 bytes `0` to `9` or `a` to `f`. Whether others know that name is for the site to see
+/// to.
 ///
 /// The end is `Served` with the status that the scripts set, which is 200 at first; `NotFound` with 404 where the path isn't open to requests or
 /// names no file; `Uncaught` and `Fault` with 500; and `Keeper` with 503 exactly where the last keeper call failed. What was sent before an end stays, and the end's text comes behind it. A HEAD request's response leaves the body out.
@@ -52,6 +57,9 @@ pub fn serve_one<F: Files, T: Tables>(
 
     // No count of faults falls.
     ensures counted { (F.faults files.old ≤ F.faults files.new) × (T.faults tables.old ≤ T.faults tables.new) }
+
+    // Isolation: the meaning of the request depends on its own session and on what all share, and leaves every other session as it was.
+    ensures isolated { IsIsolated site.old calls.old.made number r.now }
 
     // The keepers' own answers are those of the request's calls.
     ensures told { (made : List KeeperCall) × Tells made (answers (F.answers files.old) (T.answers tables.old)) (answers (F.answers files.new) (T.answers tables.new)) calls.old.made calls.new.made calls.new.failed }

@@ -2,7 +2,8 @@
 //! instead of 100,000, and `fail N ..` lets the files' Nth calls fail. Then come the files, each a field with its name, and behind a blank its shadow text where it has
 //! one, and a field with its bytes; tables, each a field `table NAME COLUMN ..`, where `:INTEGER` may stand behind a column's name, and fields `row NAME CELL~CELL..`, a
 //! cell being `i` and an integer, `t` and a text, or else NULL; and requests, each a field with the method and the target, and behind a newline further lines of the head, the
-//! empty one, and the body. A request is served when it is met, so that files behind it aren't there yet.
+//! empty one, and the body. A request is served when it is met, so that files behind it aren't there yet. `LOOK` and a path show what is
+//! kept there by then.
 //!
 //! A line is printed for each request: how it ended, its status, its keeper calls with the numbers of those that failed, the bytes of its response and the response, the denials,
 //! and the mail, where there are any; and for a request that is refused the status and the response. A field `show NAME` prints the rows of a table in the same way. A line that begins with `# ` is a heading and is printed as it is.
@@ -161,6 +162,28 @@ fn put_file(files: &mut FakeFiles, field: &str, bytes: &str) -> Result<(), Alloc
     files.put(name.as_bytes(), bytes.as_bytes(), shadow.as_bytes())
 }
 
+/// What is kept at a path: its bytes and its shadow text.
+fn look(alloc: Global, files: &FakeFiles, path: &str) -> Result<String, AllocError> {
+    let mut out = String::from_str(alloc, path)?;
+    match files.get(path.as_bytes()) {
+        Some((bytes, shadow)) => {
+            out.push_str(" | ")?;
+            push_shown(alloc, &mut out, bytes)?;
+            push_part(alloc, &mut out, shadow)?;
+        }
+        None => out.push_str(" isn't there")?,
+    }
+    Ok(out)
+}
+
+/// Puts a text last, on a line of its own.
+fn push_line(out: &mut String, text: &str) -> Result<(), AllocError> {
+    if !out.is_empty() {
+        out.push('\n')?;
+    }
+    out.push_str(text)
+}
+
 /// The numbers that are written in words.
 fn numbers(alloc: Global, words: &str) -> Result<FailList, AllocError> {
     let mut list = FailList::new(alloc);
@@ -234,7 +257,10 @@ fn answers(alloc: Global, fuel: u32, fail: FailList, line: &str) -> Result<Strin
         if let Some(at) = name {
             put_file(&mut served.files, at, field)?;
             name = None;
+        } else if let Some(path) = field.strip_prefix("LOOK ") {
+            push_line(&mut out, look(alloc, &served.files, path)?.as_str())?;
         } else if take(alloc, &mut served, &mut out, field)? {
+        } else {
             name = Some(field);
         }
     }

@@ -6,3 +6,5 @@ pub use Rattle.resin_step_parts.proofs.bytes_lemmas
 pub use Rattle.resin_step_parts.proofs.label_lemmas
 pub use Rattle.resin_step_parts.proofs.meaning_lemmas
 pub use Rattle.resin_step_parts.proofs.target_lemmas
+pub use Rattle.resin_step_parts.proofs.blindness_lemmas
+pub use Rattle.resin_step_parts.proofs.blind_form_lemmas

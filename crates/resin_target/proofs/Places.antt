@@ -20,9 +20,9 @@ use Rattle.resin_machine.specs.declared.stop.Stop.{Stop}
 use Rattle.resin_machine.specs.declared.stop.Stop.TheVariants.{Fault}
 use Rattle.resin_machine.specs.State.{State}
 use Rattle.resin_machine.specs.Steps.{Act, faults}
-use Rattle.resin_machine.specs.Variables.{is_input, variable, with_variable, taken_from}
+use Rattle.resin_machine.specs.Variables.{is_input, is_session, variable, with_variable, taken_from}
 use Rattle.resin_machine.specs.Objects.{is_object, with_object, with_fields_of, set_field, take_field}
-use Rattle.resin_machine.proofs.Variable_steps.{set_input, set_other}
+use Rattle.resin_machine.proofs.Variable_steps.{set_input, set_session_value, set_other}
 use Rattle.resin_machine.proofs.Taken.{at_object, at_no_object}
 use Rattle.resin_machine.proofs.Made.{object_of}
 use Rattle.resin_target.specs.declared.place.Place.{Place}
@@ -46,13 +46,20 @@ set_in_twice name v w top (f ∷ fs) =
 assigned_twice : (name : List ℕ) (v w : Value) (s : Frames) → assigned name w (assigned name v s) ≡ assigned name w s
 assigned_twice name v w s = set_in_twice name v w s.top s.calls
 
+other_twice : (name : List ℕ) (v w : Value) (m : State) → is_input name ≡ false → with_variable name w (with_variable name v m) ≡ with_variable name w m
+other_twice name v w m i =
+    elim (is_session name) as (λ b. is_session name ≡ b → with_variable name w (with_variable name v m) ≡ with_variable name w m) [
+      | true ↦ λ e. ap (with_variable name w) (set_session_value name v m i e) ∙ (set_session_value name w _ i e ∙ sym (set_session_value name w m i e))
+      | false ↦ λ e. ap (with_variable name w) (set_other name v m i e)
+          ∙ (set_other name w _ i e ∙ (ap (λ (x : Frames). let y : State = record m { frames = x } in y) (assigned_twice name v w m.frames) ∙ sym (set_other name w m i e)))
+    ] refl
+
 variable_twice : (name : List ℕ) (v w : Value) (m : State) → with_variable name w (with_variable name v m) ≡ with_variable name w m
 variable_twice name v w m =
     elim (is_input name) as (λ b. is_input name ≡ b → with_variable name w (with_variable name v m) ≡ with_variable name w m) [
       | true ↦ λ e. ap (with_variable name w) (set_input name v m e)
           ∙ (set_input name w _ e ∙ (ap (λ (x : Variables). let y : State = record m { inputs = x } in y) (insert_twice m.inputs name v w) ∙ sym (set_input name w m e)))
-      | false ↦ λ e. ap (with_variable name w) (set_other name v m e)
-          ∙ (set_other name w _ e ∙ (ap (λ (x : Frames). let y : State = record m { frames = x } in y) (assigned_twice name v w m.frames) ∙ sym (set_other name w m e)))
+      | false ↦ λ e. other_twice name v w m e
     ] refl
 
 taken_twice : (name : List ℕ) (w : Value) (m : State) → with_variable name w (taken_from name m) ≡ with_variable name w m
@@ -171,7 +178,7 @@ picked_stage false x y s e f = f
 pub stage_taken : (at : Place) (v : Value) (m m1 : State) → take_place at m ≡ (Ok v, m1) → m1.stage ≡ m.stage
 stage_taken (Variable name) v m m1 h =
     let e : m1 ≡ taken_from name m = sym (ap (λ (p : Result Value Stop × State). p.1) h) in
-    ap (λ (x : State). x.stage) e ∙ picked_stage (is_some (variable name m)) _ _ m.stage (picked_stage (is_input name) _ _ m.stage refl refl) refl
+    ap (λ (x : State). x.stage) e ∙ picked_stage (is_some (variable name m)) _ _ m.stage (picked_stage (is_input name) _ _ m.stage refl (picked_stage (is_session name) _ _ m.stage refl refl)) refl
 stage_taken (Property o name) v m m1 h =
     ap (λ (x : State). x.stage) (field_taken_as o name v m m1 h).1 ∙ picked_stage (is_some (field name (fields_at m.heap o))) _ _ m.stage refl refl
 

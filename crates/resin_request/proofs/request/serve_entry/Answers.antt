@@ -8,14 +8,10 @@ pub returns-in_err-put_inputs : goal.returns-in_err-put_inputs
 returns-in_err-put_inputs g c =
     does_next _ _ c.in_ok-run_boot.ensures (does_exit _ _ _ c.from_residual-in_err-put_inputs.ensures.1 c.in_err-put_inputs.ensures)
 
-pub returns-in_err-serve_file : goal.returns-in_err-serve_file
-returns-in_err-serve_file g c =
-    does_next _ _ c.in_ok-run_boot.ensures (does_next _ _ c.in_ok-put_inputs.ensures (does_exit _ _ _ c.from_residual-in_err-serve_file.ensures.1 c.in_err-serve_file.ensures))
-
-pub returns-in_err-end_buffers : goal.returns-in_err-end_buffers
-returns-in_err-end_buffers g c =
-    does_next _ _ c.in_ok-run_boot.ensures (does_next _ _ c.in_ok-put_inputs.ensures (does_next _ _ c.in_ok-serve_file.ensures (does_exit _ _ _ c.from_residual-in_err-end_buffers.ensures.1 c.in_err-end_buffers.ensures)))
+pub returns-in_err-serve_for : goal.returns-in_err-serve_for
+returns-in_err-serve_for g c =
+    does_next _ _ c.in_ok-run_boot.ensures (does_next _ _ c.in_ok-put_inputs.ensures (does_exit _ _ _ c.from_residual-in_err-serve_for.ensures.1 c.in_err-serve_for.ensures))
 
 pub returns : goal.returns
 returns g c =
-    does_next _ _ c.in_ok-run_boot.ensures (does_next _ _ c.in_ok-put_inputs.ensures (does_next _ _ c.in_ok-serve_file.ensures (does_next _ _ c.in_ok-end_buffers.ensures (does_give _ _))))
+    does_next _ _ c.in_ok-run_boot.ensures (does_next _ _ c.in_ok-put_inputs.ensures (does_next _ _ c.in_ok-serve_for.ensures (does_give _ _)))
