@@ -9,6 +9,12 @@ pub mod builtin {
 }
 
 pub use resin_builtin::under::{bytes, label, lstr, scalar, scan, value};
+
+/// `resin_guard`
+pub mod guard {
+    pub use resin_guard::{Guard, html_guard, sql_guard};
+}
+
 /// `resin_meaning`
 pub mod meaning {
     pub use resin_meaning::{

@@ -6,6 +6,6 @@ pub mod meaning_forms {
 }
 
 pub use resin_meaning_forms::under::{
-    base, builtin, bytes, heap, items, journal, label, lstr, machine, meaning, ops, scalar, store,
-    target, tree, value,
+    base, builtin, bytes, guard, heap, items, journal, label, lstr, machine, meaning, ops, scalar,
+    store, target, tree, value,
 };
