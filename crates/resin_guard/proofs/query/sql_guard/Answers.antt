@@ -14,4 +14,5 @@ returns-in-Ok c =
     record { guard = guards_query bad d c.judged.result is; verdict = is }
 
 pub returns-in-Err-Bad-clause-verdict : goal.returns-in-Err-Bad-clause-verdict
-returns-in-Err-Bad-clause-verdict c = of_query_fault c.args.bad.now c.args.text.now c.in-Err-Bad.offset (rw c.in-Err-Bad.field-0-is at c.in-Err-Bad.ensures)
+returns-in-Err-Bad-clause-verdict c =
+    rw c.in-Err-Bad.field-0-is (of_query_fault c.args.bad.now c.args.text.now c.in-Err-Bad.offset (rw c.in-Err-Bad.field-0-is at c.in-Err-Bad.ensures))
