@@ -15,8 +15,8 @@ _BY_COUNT = {
     "is_numeric is_object is_string md5 nl2br ord policy_get rawurlencode sha1 sql_quote strlen strrev strtolower strtoupper strval ucfirst unlink urlencode",
     (1, 2): "array_reverse header ltrim rtrim trim",
     (1, None): "sprintf",
-    (2, 2): "array_key_exists explode filter_add filter_func_add filter_remove implode intdiv policy_add policy_remove str_contains str_ends_with str_repeat "
-    "str_starts_with strcmp strrpos substr_count",
+    (2, 2): "array_key_exists explode filter_add filter_func_add filter_remove html_structure implode intdiv policy_add policy_remove sql_structure "
+    "str_contains str_ends_with str_repeat str_starts_with strcmp strrpos substr_count",
     (2, 3): "file_put_contents in_array strpos substr",
     (2, 4): "array_slice str_pad",
     (2, None): "array_merge",

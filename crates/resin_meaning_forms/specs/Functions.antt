@@ -1,6 +1,6 @@
 -- Functions of the runtime once they are found and their arguments are evaluated: how many arguments there are is asked first, then they are turned into
 -- their kinds from the left, then what the work takes is charged, then comes the work, and then what it gives is charged.
-use Rattle.std.specs.Prelude.{ℕ, ◌+◌, ◌==◌, List, [], ◌∷◌, ◌++◌, length, Bool, false, if◌then◌else◌, Option, None, Some, Ok}
+use Rattle.std.specs.Prelude.{ℕ, ◌+◌, ◌==◌, List, [], ◌∷◌, ◌++◌, length, filter, Bool, true, false, if◌then◌else◌, Option, None, Some, Ok}
 use Rattle.resin_builtin.specs.Under.label.Sets.{NumberSet, empty as no_labels, numbers, set_of, insert, remove}
 use Rattle.resin_builtin.specs.Under.lstr.Texts.{Text as LabelledText, marked, unmarked, policies_in_order, bytes_of}
 use Rattle.resin_target.specs.Under.journal.declared.channel.Channel.{Channel}
@@ -9,7 +9,7 @@ use Rattle.resin_target.specs.Under.journal.Channels.{channel_name}
 use Rattle.std.specs.Str.{bytes_eq}
 use Rattle.resin_builtin.specs.Under.scalar.declared.faults.ScriptFault.TheVariants.{BadOperand}
 use Rattle.resin_builtin.specs.Under.value.declared.value.Value.{Value}
-use Rattle.resin_builtin.specs.Under.value.Trees.{Tree, null, integer, text, object}
+use Rattle.resin_builtin.specs.Under.value.Trees.{Tree, null, boolean, integer, text, object}
 use Rattle.resin_builtin.specs.Under.value.Seen.{tree_of}
 use Rattle.resin_builtin.specs.Under.value.Values.{value_of}
 use Rattle.resin_target.specs.Under.ops.Conversions.{int_of_value}
@@ -24,15 +24,19 @@ use Rattle.resin_builtin.specs.Rows.{mapped}
 use Rattle.resin_builtin.specs.Calls.{called, cost}
 use Rattle.resin_target.specs.Under.heap.declared.prelude.PreludeClass.{PreludeClass}
 use Rattle.resin_target.specs.Under.heap.declared.prelude.PreludeClass.TheVariants.{ArgumentCountError, ValueError, TypeError, Policy, Filter}
+use Rattle.resin_target.specs.Under.machine.State.{State}
 use Rattle.resin_target.specs.Under.machine.Steps.{Act, charge}
-use Rattle.resin_target.specs.Under.machine.Objects.{settled}
+use Rattle.resin_target.specs.Under.machine.Objects.{settled, find_class_of}
 use Rattle.resin_target.specs.Under.machine.Filters.{add_filter, without_filter, add_function_filter}
 use Rattle.resin_target.specs.Under.machine.Leaving.{class_name_of}
+use Rattle.resin_guard.specs.Verdicts.{sql_verdict, html_verdict}
+use Rattle.resin_guard.specs.declared.judge.Guard.{Guard}
+use Rattle.resin_guard.specs.declared.judge.Guard.TheVariants.{Pass}
 use Rattle.resin_meaning_tables.specs.Under.meaning.Programs.{Prog, give, act, ◌>>=◌}
 use Rattle.resin_meaning_forms.specs.declared.callee.StateFunction.{StateFunction}
-use Rattle.resin_meaning_forms.specs.declared.callee.StateFunction.TheVariants.{PolicyAdd, PolicyRemove, PolicyGet, FilterAdd, FilterRemove, FilterFunctionAdd, GetClass}
+use Rattle.resin_meaning_forms.specs.declared.callee.StateFunction.TheVariants.{PolicyAdd, PolicyRemove, PolicyGet, FilterAdd, FilterRemove, FilterFunctionAdd, GetClass, SqlStructure, HtmlStructure}
 use Rattle.resin_meaning_forms.specs.Parts.{Evals, computed, faulted, ruled, thrown_new, looked, ◌>>◌}
-use Rattle.resin_meaning_forms.specs.Merges.{is_under, list_of_objects, merge, folded}
+use Rattle.resin_meaning_forms.specs.Merges.{is_of_class, is_under, list_of_objects, merge, folded}
 use Rattle.resin_meaning_forms.specs.Operators.{set_of_number}
 use Rattle.resin_meaning_forms.specs.Writes.{plain}
 
@@ -113,6 +117,8 @@ kinds_of FilterAdd = TextKind ∷ Any ∷ []
 kinds_of FilterRemove = TextKind ∷ Any ∷ []
 kinds_of FilterFunctionAdd = TextKind ∷ Any ∷ []
 kinds_of GetClass = Any ∷ []
+kinds_of SqlStructure = TextKind ∷ TextKind ∷ []
+kinds_of HtmlStructure = TextKind ∷ TextKind ∷ []
 
 -- these arguments, and those behind them, each turned into its kind, from the left
 abbrev pub arguments_of_on : Evals → List Tree → List ArgKind → List Tree → Prog (List Tree)
@@ -171,6 +177,21 @@ class_name t = thrown_new TypeError
 abbrev pub remove_filter : Channel → ℕ → Act (Unit {0})
 remove_filter c o m = (Ok tt, without_filter c o m)
 
+-- the policies of a text whose class is the one of a number, or under it
+abbrev pub marks_under : ℕ → LabelledText → State → NumberSet
+marks_under class t m = set_of (filter (is_of_class class m) (policies_in_order t))
+
+abbrev pub is_pass : Guard → Bool
+is_pass Pass = true
+is_pass g = false
+
+-- A guard against injection: whether each byte that carries a policy of a class stands in a harmless place of the text. An unknown class is the fault.
+abbrev pub structure : (NumberSet → LabelledText → Guard) → LabelledText → LabelledText → Prog Tree
+structure verdict t name = do
+  class ← act (find_class_of (bytes_of name))
+  bad ← looked (marks_under class t)
+  give (boolean (is_pass (verdict bad t)))
+
 -- the work of a function that works on the state
 abbrev pub state_work : StateFunction → List Tree → Prog Tree
 state_work PolicyAdd (v ∷ p ∷ ts) = object_under Policy p >>= λ o. with_policy o v
@@ -191,6 +212,8 @@ state_work FilterFunctionAdd (text name ∷ f ∷ ts) = do
   act (add_function_filter (bytes_of name) o)
   give null
 state_work GetClass (o ∷ ts) = class_name o
+state_work SqlStructure (text t ∷ text name ∷ ts) = structure sql_verdict t name
+state_work HtmlStructure (text t ∷ text name ∷ ts) = structure html_verdict t name
 state_work f ts = thrown_new ArgumentCountError
 
 -- what the work takes is charged, one value after the other

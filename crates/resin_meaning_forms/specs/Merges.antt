@@ -20,9 +20,13 @@ use Rattle.resin_meaning_tables.specs.Under.meaning.Programs.{Prog, give, quietl
 use Rattle.resin_meaning_forms.specs.Parts.{Evals, computed, faulted, looked}
 use Rattle.resin_meaning_forms.specs.Invoke.{call_object}
 
+-- an object of the class of a number, or of one under it
+abbrev pub is_of_class : ℕ → State → ℕ → Bool
+is_of_class class m o = is_object m.heap o && is_a m.classes (class_at m.heap o) class
+
 -- a value is an object of the class, or of one under it
 abbrev pub is_under : PreludeClass → State → Tree → Bool
-is_under class m (object o) = is_object m.heap o && is_a m.classes (class_at m.heap o) (number_of class)
+is_under class m (object o) = is_of_class (number_of class) m o
 is_under class m t = false
 
 -- the list of some values

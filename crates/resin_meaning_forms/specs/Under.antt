@@ -3,6 +3,7 @@ pub use Rattle.resin_builtin.specs.Under.array_fn
 pub use Rattle.resin_meaning_tables.specs.Under.base
 pub use Rattle.resin_builtin.specs as builtin
 pub use Rattle.resin_builtin.specs.Under.bytes
+pub use Rattle.resin_guard.specs as guard
 pub use Rattle.resin_target.specs.Under.heap
 pub use Rattle.resin_target.specs.Under.journal
 pub use Rattle.resin_builtin.specs.Under.label

@@ -3,7 +3,7 @@
 use resin_builtin::Builtin;
 use resin_target::under::tree::Function;
 
-/// A function that works on the state of the request: it marks data, or sets filters.
+/// A function that works on the state of the request: it marks data, sets filters, or looks at what data are marked with.
 #[derive(Clone, Copy, Debug, Eq, PartialEq)]
 pub enum StateFunction {
     /// `policy_add`
@@ -20,6 +20,10 @@ pub enum StateFunction {
     FilterFunctionAdd,
     /// `get_class`
     GetClass,
+    /// `sql_structure`
+    SqlStructure,
+    /// `html_structure`
+    HtmlStructure,
 }
 
 /// A function of a channel: a check, a merge or a filter that the runtime called may not use it, but for those that only look.

@@ -9,6 +9,12 @@ pub mod builtin {
 }
 
 pub use resin_builtin::under::{bytes, label, lstr, scalar, scan, value};
+
+/// `resin_guard`
+pub mod guard {
+    pub use resin_guard::{Guard, html_guard, sql_guard};
+}
+
 pub use resin_meaning_tables as meaning_tables;
 pub use resin_meaning_tables::under::{base, meaning, store};
 /// `resin_target`

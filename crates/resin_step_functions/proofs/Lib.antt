@@ -1,3 +1,4 @@
+pub mod Guarded
 pub mod Marks
 pub mod Spent
 pub mod step_parts_lemmas

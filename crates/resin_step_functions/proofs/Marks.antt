@@ -37,7 +37,7 @@ use Rattle.resin_step_parts.specs.Under.meaning_forms.Writes.{plain}
 use Rattle.resin_step_parts.specs.Under.meaning_forms.Merges.{is_under, list_of_objects, objects_among, values_in, policies_in, with_answer}
 use Rattle.resin_step_parts.specs.Under.meaning_forms.Functions.{nameable, channel_among, channel_for, number_in, policies_of, object_under, with_policy, without_policy, seen, class_name, remove_filter, state_work}
 use Rattle.resin_step_parts.specs.Under.meaning_forms.declared.callee.StateFunction.{StateFunction}
-use Rattle.resin_step_parts.specs.Under.meaning_forms.declared.callee.StateFunction.TheVariants.{PolicyAdd, PolicyRemove, PolicyGet, FilterAdd, FilterRemove, FilterFunctionAdd, GetClass}
+use Rattle.resin_step_parts.specs.Under.meaning_forms.declared.callee.StateFunction.TheVariants.{PolicyAdd, PolicyRemove, PolicyGet, FilterAdd, FilterRemove, FilterFunctionAdd, GetClass, SqlStructure, HtmlStructure}
 use Rattle.resin_step_parts.proofs.Pure.{drop_at}
 use Rattle.resin_step_parts.proofs.Steps.{does_faulted, fault_there, runs_as, thrown_seen}
 
@@ -309,6 +309,22 @@ function_alone (text t) = refl
 function_alone (array r l h) = refl
 function_alone (object o) = refl
 
+query_alone : (t : Tree) → ◌≡◌ {A = Prog Tree} (state_work SqlStructure (t ∷ [])) (thrown_new ArgumentCountError)
+query_alone null = refl
+query_alone (boolean b) = refl
+query_alone (integer n s) = refl
+query_alone (text t) = refl
+query_alone (array r l h) = refl
+query_alone (object o) = refl
+
+page_alone : (t : Tree) → ◌≡◌ {A = Prog Tree} (state_work HtmlStructure (t ∷ [])) (thrown_new ArgumentCountError)
+page_alone null = refl
+page_alone (boolean b) = refl
+page_alone (integer n s) = refl
+page_alone (text t) = refl
+page_alone (array r l h) = refl
+page_alone (object o) = refl
+
 -- one argument is too few
 pub one_missing : (f : StateFunction) (t : Tree) → (f ≡ PolicyGet → ⊥) → (f ≡ GetClass → ⊥) → ◌≡◌ {A = Prog Tree} (state_work f (t ∷ [])) (thrown_new ArgumentCountError)
 one_missing PolicyAdd t h j = refl
@@ -318,6 +334,8 @@ one_missing FilterAdd t h j = added_alone t
 one_missing FilterRemove t h j = removed_alone t
 one_missing FilterFunctionAdd t h j = function_alone t
 one_missing GetClass t h j = absurd (j refl)
+one_missing SqlStructure t h j = query_alone t
+one_missing HtmlStructure t h j = page_alone t
 
 removed_enough : (v w : Tree) (ts : List Tree) → ◌≡◌ {A = Prog Tree} (state_work FilterRemove (v ∷ w ∷ ts)) (state_work FilterRemove (v ∷ w ∷ []))
 removed_enough null w ts = refl
@@ -335,6 +353,38 @@ function_enough (text t) w ts = refl
 function_enough (array r l h) w ts = refl
 function_enough (object o) w ts = refl
 
+query_text_enough : (t : LabelledText) (w : Tree) (ts : List Tree) → ◌≡◌ {A = Prog Tree} (state_work SqlStructure (text t ∷ w ∷ ts)) (state_work SqlStructure (text t ∷ w ∷ []))
+query_text_enough t null ts = refl
+query_text_enough t (boolean b) ts = refl
+query_text_enough t (integer n s) ts = refl
+query_text_enough t (text x) ts = refl
+query_text_enough t (array r l h) ts = refl
+query_text_enough t (object o) ts = refl
+
+query_enough : (v w : Tree) (ts : List Tree) → ◌≡◌ {A = Prog Tree} (state_work SqlStructure (v ∷ w ∷ ts)) (state_work SqlStructure (v ∷ w ∷ []))
+query_enough null w ts = refl
+query_enough (boolean b) w ts = refl
+query_enough (integer n s) w ts = refl
+query_enough (text t) w ts = query_text_enough t w ts
+query_enough (array r l h) w ts = refl
+query_enough (object o) w ts = refl
+
+page_text_enough : (t : LabelledText) (w : Tree) (ts : List Tree) → ◌≡◌ {A = Prog Tree} (state_work HtmlStructure (text t ∷ w ∷ ts)) (state_work HtmlStructure (text t ∷ w ∷ []))
+page_text_enough t null ts = refl
+page_text_enough t (boolean b) ts = refl
+page_text_enough t (integer n s) ts = refl
+page_text_enough t (text x) ts = refl
+page_text_enough t (array r l h) ts = refl
+page_text_enough t (object o) ts = refl
+
+page_enough : (v w : Tree) (ts : List Tree) → ◌≡◌ {A = Prog Tree} (state_work HtmlStructure (v ∷ w ∷ ts)) (state_work HtmlStructure (v ∷ w ∷ []))
+page_enough null w ts = refl
+page_enough (boolean b) w ts = refl
+page_enough (integer n s) w ts = refl
+page_enough (text t) w ts = page_text_enough t w ts
+page_enough (array r l h) w ts = refl
+page_enough (object o) w ts = refl
+
 two_enough : (f : StateFunction) (v w : Tree) (ts : List Tree) → ◌≡◌ {A = Prog Tree} (state_work f (v ∷ w ∷ ts)) (state_work f (v ∷ w ∷ []))
 two_enough PolicyAdd v w ts = refl
 two_enough PolicyRemove v w ts = refl
@@ -343,6 +393,8 @@ two_enough FilterAdd v w ts = two_matter v w ts
 two_enough FilterRemove v w ts = removed_enough v w ts
 two_enough FilterFunctionAdd v w ts = function_enough v w ts
 two_enough GetClass v w ts = refl
+two_enough SqlStructure v w ts = query_enough v w ts
+two_enough HtmlStructure v w ts = page_enough v w ts
 
 pub no_arguments : (f : StateFunction) (vs : List Value) → length vs ≡ 0 → ◌≡◌ {A = Prog Tree} (state_work f (trees_of vs)) (thrown_new ArgumentCountError)
 no_arguments PolicyAdd [] h = refl
@@ -352,6 +404,8 @@ no_arguments FilterAdd [] h = refl
 no_arguments FilterRemove [] h = refl
 no_arguments FilterFunctionAdd [] h = refl
 no_arguments GetClass [] h = refl
+no_arguments SqlStructure [] h = refl
+no_arguments HtmlStructure [] h = refl
 no_arguments f (v ∷ vs) h = absurd (omega (arith, h))
 
 pub one_argument : (f : StateFunction) (vs : List Value) (v : Value) → length vs ≡ 1 → v ≡ get_or vs 0 v → ◌≡◌ {A = Prog Tree} (state_work f (trees_of vs)) (state_work f (tree_of v ∷ []))

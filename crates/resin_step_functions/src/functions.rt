@@ -68,6 +68,9 @@ pub fn kinds_of(f: StateFunction) -> &'static [ArgKind]
         StateFunction::PolicyGet | StateFunction::GetClass => &[ArgKind::Any],
         StateFunction::FilterAdd | StateFunction::FilterRemove | StateFunction::FilterFunctionAdd =>
             &[ArgKind::Text, ArgKind::Any],
+        StateFunction::SqlStructure | StateFunction::HtmlStructure => {
+            &[ArgKind::Text, ArgKind::Text]
+        }
     }
 }
 

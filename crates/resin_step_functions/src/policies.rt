@@ -8,6 +8,7 @@ ghost use Rattle.resin_step_parts.specs.Under.value.Seen.{tree_of, trees_of};
 ghost use Rattle.resin_step_parts.specs.Under.value.Trees.{text};
 ghost use Rattle.std.specs.Prelude.{IfOk, [], ◌∷◌, ◌≡◌};
 
+use crate::guards::{page_structure, query_structure};
 use resin_step_parts::operators::is_object_under;
 use resin_step_parts::reads::{object_list, plain};
 use resin_step_parts::under::heap::PreludeClass;
@@ -245,6 +246,8 @@ fn work_on_two(
         StateFunction::FilterRemove => remove_filter(m, first, second),
         StateFunction::FilterFunctionAdd => add_function_filter(m, first, second),
         StateFunction::GetClass => class_name(alloc, m, first),
+        StateFunction::SqlStructure => query_structure(alloc, m, first, second),
+        StateFunction::HtmlStructure => page_structure(alloc, m, first, second),
     }
 }
 

@@ -12,9 +12,7 @@ use Rattle.resin_meaning_forms.specs.Under.heap.declared.heap.Object.{Object}
 use Rattle.resin_meaning_forms.specs.Under.value.Trees.{object}
 use Rattle.resin_meaning_forms.specs.Under.machine.State.{State}
 use Rattle.resin_meaning_forms.specs.Under.machine.Objects.{is_object}
-use Rattle.resin_meaning_forms.specs.Under.heap.Prelude.{number_of}
-use Rattle.resin_meaning_forms.specs.Under.heap.declared.prelude.PreludeClass.{PreludeClass}
-use Rattle.resin_meaning_forms.specs.Merges.{is_under}
+use Rattle.resin_meaning_forms.specs.Merges.{is_of_class}
 use Rattle.resin_meaning_forms.specs.Operators.{fits}
 
 eq_alone : (c other : ℕ) → nat_eq c other ≡ (nat_eq other c || false)
@@ -77,8 +75,8 @@ fits_unknown name o m e = ap (λ x. is_object m.heap o && option_map_or (λ c. i
 pub fits_class : (name : List ℕ) (o : ℕ) (m : State) (c : ℕ) → is_object m.heap o ≡ true → find_class m.classes name ≡ Some c → fits name (object o) m ≡ is_a m.classes (class_at m.heap o) c
 fits_class name o m c e h = λ i. e i && option_map_or (λ d. is_a m.classes (class_at m.heap o) d) (h i) false
 
-pub under_none : (class : PreludeClass) (o : ℕ) (m : State) → is_object m.heap o ≡ false → is_under class m (object o) ≡ false
-under_none class o m e = ap (λ b. b && is_a m.classes (class_at m.heap o) (number_of class)) e
+pub of_no_class : (class o : ℕ) (m : State) → is_object m.heap o ≡ false → is_of_class class m o ≡ false
+of_no_class class o m e = ap (λ b. b && is_a m.classes (class_at m.heap o) class) e
 
-pub under_class : (class : PreludeClass) (o : ℕ) (m : State) → is_object m.heap o ≡ true → is_under class m (object o) ≡ is_a m.classes (class_at m.heap o) (number_of class)
-under_class class o m e = ap (λ b. b && is_a m.classes (class_at m.heap o) (number_of class)) e
+pub of_class : (class o : ℕ) (m : State) → is_object m.heap o ≡ true → is_of_class class m o ≡ is_a m.classes (class_at m.heap o) class
+of_class class o m e = ap (λ b. b && is_a m.classes (class_at m.heap o) class) e

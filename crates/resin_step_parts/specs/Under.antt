@@ -3,6 +3,7 @@ pub use Rattle.resin_meaning_forms.specs.Under.array_fn
 pub use Rattle.resin_meaning_forms.specs.Under.base
 pub use Rattle.resin_meaning_forms.specs.Under.builtin
 pub use Rattle.resin_meaning_forms.specs.Under.bytes
+pub use Rattle.resin_meaning_forms.specs.Under.guard
 pub use Rattle.resin_meaning_forms.specs.Under.heap
 pub use Rattle.resin_meaning_forms.specs.Under.journal
 pub use Rattle.resin_meaning_forms.specs.Under.label

@@ -28,6 +28,10 @@ pub fn state_named(name: &[u8]) -> Option<StateFunction>
         Some(StateFunction::FilterFunctionAdd)
     } else if spells(b"get_class", name) {
         Some(StateFunction::GetClass)
+    } else if spells(b"sql_structure", name) {
+        Some(StateFunction::SqlStructure)
+    } else if spells(b"html_structure", name) {
+        Some(StateFunction::HtmlStructure)
     } else {
         None
     }

@@ -11,7 +11,7 @@ ghost use Rattle.resin_meaning_forms.specs.Under.machine.Objects.{settled};
 ghost use Rattle.resin_meaning_forms.specs.Under.target.Reads.{GivesOrNoMemory};
 ghost use Rattle.resin_meaning_forms.specs.Runs.{Runs};
 ghost use Rattle.resin_meaning_forms.specs.Parts.{Evals, charge_both, charged, given, text_cost};
-ghost use Rattle.resin_meaning_forms.specs.Merges.{is_under};
+ghost use Rattle.resin_meaning_forms.specs.Merges.{is_of_class, is_under};
 ghost use Rattle.resin_meaning_forms.specs.Operators.{too_long, concatenated, calculated, combined_by, compare_fault, or_fault, or_spent, compared, equal, identical, order, labelled, sign_of, own_set, fits, instance_of};
 
 use crate::reads::{number, text_cost, text_stop};
@@ -242,8 +242,15 @@ pub fn is_object_under(m: &Machine, class: PreludeClass, v: &Value) -> bool
 fn object_is_under(m: &Machine, class: PreludeClass, o: u32) -> bool
     ensures { result ≡ is_under class m.now (object o) }
 {
+    is_object_of(m, class.number(), o)
+}
+
+/// Whether there is an object of this number that is of the class of a number, or of one under it.
+pub fn is_object_of(m: &Machine, class: u32, o: u32) -> bool
+    ensures { result ≡ is_of_class class m.now o }
+{
     if m.heap().has(o) {
-        is_of(m, o, class.number())
+        is_of(m, o, class)
     } else {
         false
     }

@@ -27,3 +27,11 @@ returns-in-FilterFunctionAdd c =
 pub returns-in-GetClass : goal.returns-in-GetClass
 returns-in-GetClass c =
     rw c.in-GetClass.is c.class_name.ensures
+
+pub returns-in-SqlStructure : goal.returns-in-SqlStructure
+returns-in-SqlStructure c =
+    rw c.in-SqlStructure.is c.query_structure.ensures
+
+pub returns-in-HtmlStructure : goal.returns-in-HtmlStructure
+returns-in-HtmlStructure c =
+    rw c.in-HtmlStructure.is c.page_structure.ensures

@@ -1,0 +1,17 @@
+use Rattle.resin_step_parts.specs.Under.heap.declared.prelude.PreludeClass.TheVariants.{ArgumentCountError}
+use Rattle.resin_step_parts.specs.Under.value.Seen.{tree_of}
+use Rattle.resin_step_functions.proofs.Guarded.{no_query, no_query_class}
+use Rattle.resin_step_functions.proofs.Marks.{throw_there}
+use Rattle.resin_step_functions.proofs.guards.query_structure.Goals as goal
+
+pub returns-in_default : goal.returns-in_default
+returns-in_default c =
+    throw_there _ ArgumentCountError _ _ _ (no_query (tree_of c.args.class.now) c.args.text.now c.in_default.not-Text) c.throw.ensures.acts
+
+pub returns-in_default-2 : goal.returns-in_default-2
+returns-in_default-2 c =
+    rw c.in-Text.is (throw_there _ ArgumentCountError _ _ _ (no_query_class c.in-Text.text c.args.class.now c.in_default-2.not-Text) c.throw-in_default-2.ensures.acts)
+
+pub returns : goal.returns
+returns c =
+    rw (c.in-Text.is, c.in-Text-2.is) c.guarded_query.ensures
