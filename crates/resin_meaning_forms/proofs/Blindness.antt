@@ -8,10 +8,10 @@ use Rattle.std.specs.Str.{bytes_eq}
 use Rattle.std.proofs.lemmas.Bool.Decides.{Decides-eqb}
 use Rattle.std.proofs.lemmas.Slice.Eq.{starts_is, bytes_eq-Decides}
 use Rattle.std.specs.FinMap.{FinMap, get, insert, remove, get-insert, get-remove, slice_cmp-IsAntisymmetric, nat_cmp-IsAntisymmetric}
-use Rattle.resin_meaning.specs.Under.base.Contents.{byte_order}
-use Rattle.resin_meaning.specs.Under.base.Causes.{is_listed, last_count}
-use Rattle.resin_meaning.specs.Under.base.TableStore.{TableStore}
-use Rattle.resin_meaning.specs.Under.store.Entries.{Marked, LabelledEntry, Good, Second}
+use Rattle.resin_meaning_tables.specs.Under.base.Contents.{byte_order}
+use Rattle.resin_meaning_tables.specs.Under.base.Causes.{is_listed, last_count}
+use Rattle.resin_meaning_tables.specs.Under.base.TableStore.{TableStore}
+use Rattle.resin_meaning_tables.specs.Under.store.Entries.{Marked, LabelledEntry, Good, Second}
 use Rattle.resin_builtin.specs.Under.bytes.Paths.{is_lawful_path, has_segments}
 use Rattle.resin_builtin.specs.Under.scalar.declared.faults.ScriptFault.TheVariants.{FuelSpent}
 use Rattle.resin_target.specs.Under.machine.declared.stop.Stop.{Stop}
@@ -20,8 +20,8 @@ use Rattle.resin_target.specs.Under.machine.State.{State}
 use Rattle.resin_target.specs.Under.machine.Steps.{Act}
 use Rattle.resin_target.specs.Under.tree.declared.expression.Expr.{Expr}
 use Rattle.resin_target.specs.Under.tree.declared.statement.Stmt.{Stmt}
-use Rattle.resin_meaning.specs.Programs.{Store, Whole, KeeperCall, Out, Prog, ended, give, stop, then_by, on_value, ◌>>=◌, caught, tried, act, within, called, keep, on_files, on_tables, file_call, table_call}
-use Rattle.resin_meaning.specs.KeeperCalls.{read_file, write_file, remove_file, file_exists}
+use Rattle.resin_meaning_tables.specs.Under.meaning.Programs.{Store, Whole, KeeperCall, Out, Prog, ended, give, stop, then_by, on_value, ◌>>=◌, caught, tried, act, within, called, keep, on_files, on_tables, file_call, table_call}
+use Rattle.resin_meaning_tables.specs.Under.meaning.KeeperCalls.{read_file, write_file, remove_file, file_exists}
 use Rattle.resin_meaning_forms.specs.Parts.{Evals}
 use Rattle.resin_meaning_forms.specs.Blindness.{AgreeFor, Alike, IsBlind}
 use Rattle.resin_meaning_forms.specs.Sessions.{session_path, is_of_session, is_of_other}

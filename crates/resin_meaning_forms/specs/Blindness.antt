@@ -3,7 +3,7 @@ use Rattle.std.specs.Prelude.{◌≡◌, ℕ, true, false, List, Option}
 use Rattle.std.specs.FinMap.{get}
 use Rattle.resin_target.specs.Under.tree.declared.declaration.Program.{Program}
 use Rattle.resin_builtin.specs.Under.value.declared.value.Value.{Value}
-use Rattle.resin_meaning.specs.Programs.{Store, Whole, Out, Prog}
+use Rattle.resin_meaning_tables.specs.Under.meaning.Programs.{Store, Whole, Out, Prog}
 use Rattle.resin_meaning_forms.specs.Sessions.{is_of_other}
 use Rattle.resin_meaning_forms.specs.Programs.{program, function_call}
 

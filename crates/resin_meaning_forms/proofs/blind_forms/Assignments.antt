@@ -10,7 +10,7 @@ use Rattle.resin_target.specs.Under.tree.declared.expression.Assignment.{Assignm
 use Rattle.resin_target.specs.Under.tree.declared.expression.Combining.{Combining}
 use Rattle.resin_target.specs.Under.tree.declared.expression.Expr.{Expr}
 use Rattle.resin_target.specs.Under.tree.declared.expression.Target.{Target}
-use Rattle.resin_meaning.specs.Programs.{Prog, give, act, ◌>>=◌}
+use Rattle.resin_meaning_tables.specs.Under.meaning.Programs.{Prog, give, act, ◌>>=◌}
 use Rattle.resin_target.specs.declared.path.Path.{Path}
 use Rattle.resin_target.specs.Targets.{fetch, store}
 use Rattle.resin_meaning_forms.specs.Parts.{Evals, computed, faulted, ◌>>◌}

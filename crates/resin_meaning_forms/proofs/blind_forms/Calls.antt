@@ -21,7 +21,7 @@ use Rattle.resin_target.specs.Under.machine.declared.stop.Stop.TheVariants.{Thro
 use Rattle.resin_target.specs.Under.machine.Variables.{read}
 use Rattle.resin_target.specs.Under.machine.Objects.{class_of, find_class_of, make_object, set_field}
 use Rattle.resin_target.specs.Under.machine.Leaving.{deny_filter}
-use Rattle.resin_meaning.specs.Programs.{Prog, give, stop, act, tried, quietly, ◌>>=◌}
+use Rattle.resin_meaning_tables.specs.Under.meaning.Programs.{Prog, give, stop, act, tried, quietly, ◌>>=◌}
 use Rattle.resin_meaning_forms.specs.declared.callee.Callee.{Callee}
 use Rattle.resin_meaning_forms.specs.declared.callee.Callee.TheVariants.{Script, Builtin, State as OfState, Channel}
 use Rattle.resin_meaning_forms.specs.Parts.{Evals, faulted, looked, ◌>>◌}

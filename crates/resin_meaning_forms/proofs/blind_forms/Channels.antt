@@ -18,7 +18,7 @@ use Rattle.resin_builtin.specs.Under.scalar.declared.faults.ScriptFault.TheVaria
 use Rattle.resin_target.specs.Under.heap.declared.prelude.PreludeClass.TheVariants.{ValueError}
 use Rattle.resin_target.specs.Under.machine.Steps.{awake}
 use Rattle.resin_target.specs.Under.machine.Leaving.{open_buffer, close_buffer}
-use Rattle.resin_meaning.specs.Programs.{Prog, give, act, ◌>>=◌}
+use Rattle.resin_meaning_tables.specs.Under.meaning.Programs.{Prog, give, act, ◌>>=◌}
 use Rattle.resin_meaning_forms.specs.declared.callee.ChannelFunction.{ChannelFunction}
 use Rattle.resin_meaning_forms.specs.declared.callee.ChannelFunction.TheVariants.{BufferStart, BufferGetClean, BufferEndClean, BufferEndFlush, Header as HeaderFunction, ResponseCode, Mail as MailFunction, FilePutContents, FileGetContents, Unlink, FileExists, SqlQuery}
 use Rattle.resin_meaning_forms.specs.declared.outgoing.Outgoing.TheVariants.{Header as HeaderLine, Status, Mail}
@@ -26,7 +26,7 @@ use Rattle.resin_meaning_forms.specs.Parts.{Evals, computed, faulted, thrown_new
 use Rattle.resin_meaning_forms.specs.Writes.{plain, context_of, leave, write_page}
 use Rattle.resin_meaning_forms.specs.Functions.{counted, arguments_of}
 use Rattle.resin_meaning_forms.specs.Files.{flags_in, get_contents, put_contents, unlink, exists}
-use Rattle.resin_meaning_forms.specs.Channels.{text_or_false, is_open, flushed, status_in, status_of, leave_status, set_status, breaks_lines, is_one_line, mail_context, unbuilt, needed, optional, is_count, flag_in, channel_work, only_looks, channel_function}
+use Rattle.resin_meaning_forms.specs.Channels.{text_or_false, is_open, flushed, status_in, status_of, leave_status, set_status, breaks_lines, is_one_line, mail_context, unfit, needed, optional, is_count, flag_in, channel_work, only_looks, channel_function}
 use Rattle.resin_meaning_forms.specs.Blindness.{IsBlind}
 use Rattle.resin_meaning_forms.proofs.Blindness.{BlindEvals, blinding}
 use Rattle.resin_meaning_forms.proofs.blind_forms.Writes.{leave_blind, write_page_blind}
@@ -45,7 +45,7 @@ pub set_status_blind : {own : Option (List ℕ)} (ev : Evals) (a1 : Option ℕ) 
 set_status_blind ev None n h = search blinding depth 12
 set_status_blind ev (Some status) n h = search (blinding, leave_status_blind) depth 12
 
-pub unbuilt_blind : {own : Option (List ℕ)} {A : Type 0} → IsBlind {A = A} own unbuilt
+pub unbuilt_blind : {own : Option (List ℕ)} {A : Type 0} → IsBlind {A = A} own unfit
 unbuilt_blind = search blinding depth 12
 
 pub channel_work_blind : {own : Option (List ℕ)} (ev : Evals) (f : ChannelFunction) (ts : List Tree) → BlindEvals own ev → IsBlind {A = Tree} own (channel_work ev f ts)

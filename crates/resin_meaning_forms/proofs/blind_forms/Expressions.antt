@@ -19,7 +19,7 @@ use Rattle.resin_target.specs.Under.tree.declared.expression.Expr.{Expr, Expr-F,
 use Rattle.resin_target.specs.Under.tree.declared.expression.Operation.{Operation, Operation-F, out-Operation}
 use Rattle.resin_target.specs.Under.tree.declared.expression.Test.{Test, Test-F, out-Test}
 use Rattle.resin_target.specs.Under.machine.Variables.{read}
-use Rattle.resin_meaning.specs.Programs.{Prog, give, act, ◌>>=◌}
+use Rattle.resin_meaning_tables.specs.Under.meaning.Programs.{Prog, give, act, ◌>>=◌}
 use Rattle.resin_meaning_forms.specs.Parts.{Evals, computed, charged, given, ◌>>◌}
 use Rattle.resin_meaning_forms.specs.Operands.{is_nothing, keyed, index_of, soft_index_of, property_of}
 use Rattle.resin_meaning_forms.specs.Invoke.{literal_of}

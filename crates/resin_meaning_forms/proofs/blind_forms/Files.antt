@@ -9,9 +9,9 @@ use Rattle.resin_target.specs.Under.journal.declared.channel.Channel.TheVariants
 use Rattle.resin_builtin.specs.Under.scalar.declared.faults.ScriptFault.TheVariants.{BadShadow, TextTooLong}
 use Rattle.resin_builtin.specs.Under.value.Trees.{Tree, boolean, integer, text}
 use Rattle.resin_target.specs.Under.heap.declared.prelude.PreludeClass.TheVariants.{ValueError}
-use Rattle.resin_meaning.specs.Under.store.Entries.{Marked, LabelledEntry, Good, Bad}
-use Rattle.resin_meaning.specs.Programs.{Prog, give, ◌>>=◌}
-use Rattle.resin_meaning.specs.KeeperCalls.{read_file, write_file, remove_file, file_exists}
+use Rattle.resin_meaning_tables.specs.Under.store.Entries.{Marked, LabelledEntry, Good, Bad}
+use Rattle.resin_meaning_tables.specs.Under.meaning.Programs.{Prog, give, ◌>>=◌}
+use Rattle.resin_meaning_tables.specs.Under.meaning.KeeperCalls.{read_file, write_file, remove_file, file_exists}
 use Rattle.resin_meaning_forms.specs.Parts.{Evals, faulted, thrown_new, ◌>>◌}
 use Rattle.resin_meaning_forms.specs.Keeping.{thaw_entry, freeze_text}
 use Rattle.resin_meaning_forms.specs.Reading.{path_context, read_through, keep_through}

@@ -27,7 +27,7 @@ use Rattle.resin_target.specs.Under.machine.Steps.{Act, charge}
 use Rattle.resin_target.specs.Under.machine.Objects.{settled}
 use Rattle.resin_target.specs.Under.machine.Filters.{add_filter, without_filter, add_function_filter}
 use Rattle.resin_target.specs.Under.machine.Leaving.{class_name_of}
-use Rattle.resin_meaning.specs.Programs.{Prog, give, act, ◌>>=◌}
+use Rattle.resin_meaning_tables.specs.Under.meaning.Programs.{Prog, give, act, ◌>>=◌}
 use Rattle.resin_meaning_forms.specs.declared.callee.StateFunction.{StateFunction}
 use Rattle.resin_meaning_forms.specs.declared.callee.StateFunction.TheVariants.{PolicyAdd, PolicyRemove, PolicyGet, FilterAdd, FilterRemove, FilterFunctionAdd, GetClass}
 use Rattle.resin_meaning_forms.specs.Parts.{Evals, computed, faulted, ruled, thrown_new, looked, ◌>>◌}

@@ -13,9 +13,9 @@ use Rattle.resin_target.specs.Under.tree.declared.expression.Import.TheVariants.
 use Rattle.resin_target.specs.Under.heap.declared.prelude.PreludeClass.TheVariants.{Error}
 use Rattle.resin_target.specs.Under.machine.Filters.{is_imported, import_path}
 use Rattle.resin_target.specs.Under.machine.Steps.{awake}
-use Rattle.resin_meaning.specs.Under.store.Entries.{LabelledEntry}
-use Rattle.resin_meaning.specs.Programs.{Prog, give, act, ◌>>=◌}
-use Rattle.resin_meaning.specs.KeeperCalls.{read_file}
+use Rattle.resin_meaning_tables.specs.Under.store.Entries.{LabelledEntry}
+use Rattle.resin_meaning_tables.specs.Under.meaning.Programs.{Prog, give, act, ◌>>=◌}
+use Rattle.resin_meaning_tables.specs.Under.meaning.KeeperCalls.{read_file}
 use Rattle.resin_meaning_forms.specs.declared.course.Course.{Course}
 use Rattle.resin_meaning_forms.specs.declared.course.Course.TheVariants.{Next, Break, Continue, Return}
 use Rattle.resin_meaning_forms.specs.Parts.{Evals, computed, thrown_new, looked, charge_text, ◌>>◌}

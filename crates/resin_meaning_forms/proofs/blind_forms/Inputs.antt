@@ -13,7 +13,7 @@ use Rattle.resin_builtin.specs.Under.value.Arrays.{Array, EntryList, entries_of,
 use Rattle.resin_builtin.specs.Under.value.Changes.{put, empty}
 use Rattle.resin_builtin.specs.Under.array_fn.Filled.{added_at}
 use Rattle.resin_target.specs.Under.machine.Variables.{assign}
-use Rattle.resin_meaning.specs.Programs.{Prog, give, act, ◌>>=◌}
+use Rattle.resin_meaning_tables.specs.Under.meaning.Programs.{Prog, give, act, ◌>>=◌}
 use Rattle.resin_meaning_forms.specs.Parts.{Evals, computed, ◌>>◌}
 use Rattle.resin_meaning_forms.specs.Writes.{plain}
 use Rattle.resin_meaning_forms.specs.Reading.{read_through}

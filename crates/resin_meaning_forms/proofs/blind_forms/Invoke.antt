@@ -32,7 +32,7 @@ use Rattle.resin_target.specs.Under.heap.declared.prelude.PreludeMethod.TheVaria
 use Rattle.resin_target.specs.Under.machine.State.{State}
 use Rattle.resin_target.specs.Under.machine.Variables.{read, assign}
 use Rattle.resin_target.specs.Under.machine.Objects.{class_of, read_field, set_field}
-use Rattle.resin_meaning.specs.Programs.{Prog, give, act, framed, ◌>>=◌}
+use Rattle.resin_meaning_tables.specs.Under.meaning.Programs.{Prog, give, act, framed, ◌>>=◌}
 use Rattle.resin_meaning_forms.specs.declared.course.Course.{Course}
 use Rattle.resin_meaning_forms.specs.declared.course.Course.TheVariants.{Next, Break, Continue, Return}
 use Rattle.resin_meaning_forms.specs.Parts.{Evals, computed, faulted, thrown_new, looked, ◌>>◌}

@@ -5,8 +5,8 @@ use Rattle.resin_builtin.specs.Under.lstr.Texts.{Text, policies_in_order, first_
 use Rattle.resin_target.specs.Under.journal.declared.channel.Channel.{Channel}
 use Rattle.resin_target.specs.Under.machine.declared.stop.Stop.TheVariants.{Thrown}
 use Rattle.resin_target.specs.Under.machine.Leaving.{draw, pass, deny, deny_filter}
-use Rattle.resin_meaning.specs.Programs.{Prog, give, stop, ◌>>=◌, tried, quietly, act}
-use Rattle.resin_meaning.specs.LeavingWrites.{judged, ask_policies, filtered, ask_filters, leaving_write}
+use Rattle.resin_meaning_tables.specs.Under.meaning.Programs.{Prog, give, stop, ◌>>=◌, tried, quietly, act}
+use Rattle.resin_meaning_tables.specs.Under.meaning.LeavingWrites.{judged, ask_policies, filtered, ask_filters, leaving_write}
 use Rattle.resin_meaning_forms.specs.Blindness.{IsBlind}
 use Rattle.resin_meaning_forms.proofs.Blindness.{blinding}
 

@@ -17,7 +17,7 @@ use Rattle.resin_target.specs.Under.heap.declared.prelude.PreludeClass.{PreludeC
 use Rattle.resin_target.specs.Under.heap.declared.prelude.PreludeClass.TheVariants.{Policy}
 use Rattle.resin_target.specs.Under.machine.State.{State}
 use Rattle.resin_target.specs.Under.machine.Objects.{is_object}
-use Rattle.resin_meaning.specs.Programs.{Prog, give, quietly, ◌>>=◌}
+use Rattle.resin_meaning_tables.specs.Under.meaning.Programs.{Prog, give, quietly, ◌>>=◌}
 use Rattle.resin_meaning_forms.specs.Parts.{Evals, computed, faulted, looked}
 use Rattle.resin_meaning_forms.specs.Invoke.{call_object}
 use Rattle.resin_meaning_forms.specs.Merges.{is_under, list_of, list_of_objects, objects_among, values_in, policies_in, ask_merge, with_answer, ask_merges, no_policies, merge_lists, merge, fold_on, fold_sets, folded}

@@ -6,7 +6,7 @@ use Rattle.resin_builtin.specs.Names.{builtin_named}
 use Rattle.resin_builtin.specs.Under.scalar.declared.faults.ScriptFault.TheVariants.{UndefinedFunction}
 use Rattle.resin_target.specs.Under.machine.State.{State}
 use Rattle.resin_target.specs.Under.machine.Objects.{function_named}
-use Rattle.resin_meaning.specs.Programs.{Prog, give, ◌>>=◌}
+use Rattle.resin_meaning_tables.specs.Under.meaning.Programs.{Prog, give, ◌>>=◌}
 use Rattle.resin_meaning_forms.specs.declared.callee.Callee.{Callee}
 use Rattle.resin_meaning_forms.specs.declared.callee.Callee.TheVariants.{Script, Builtin, State as OfState, Channel}
 use Rattle.resin_meaning_forms.specs.declared.callee.StateFunction.{StateFunction}

@@ -6,7 +6,7 @@ use Rattle.resin_builtin.specs.Under.value.declared.value.Value.{Value}
 use Rattle.resin_builtin.specs.Under.value.declared.value.Value.TheVariants.{Null}
 use Rattle.resin_builtin.specs.Under.value.Seen.{tree_of}
 use Rattle.resin_target.specs.Under.ops.Conversions.{key_of}
-use Rattle.resin_meaning.specs.Programs.{Prog}
+use Rattle.resin_meaning_tables.specs.Under.meaning.Programs.{Prog}
 use Rattle.resin_target.specs.Reads.{at_index, at_property}
 use Rattle.resin_meaning_forms.specs.Parts.{computed, looked}
 use Rattle.resin_meaning_forms.specs.Operands.{is_nothing, keyed, index_of, soft_index_of, property_of}

@@ -35,7 +35,7 @@ use Rattle.resin_target.specs.Under.heap.Objects.{class_at}
 use Rattle.resin_target.specs.Under.machine.State.{State}
 use Rattle.resin_target.specs.Under.machine.Steps.{Act}
 use Rattle.resin_target.specs.Under.machine.Objects.{settled, is_object}
-use Rattle.resin_meaning.specs.Programs.{Prog, give, act, ◌>>=◌}
+use Rattle.resin_meaning_tables.specs.Under.meaning.Programs.{Prog, give, act, ◌>>=◌}
 use Rattle.resin_meaning_forms.specs.Parts.{Evals, computed, ruled, charge_text, charge_both, given, looked, ◌>>◌}
 use Rattle.resin_meaning_forms.specs.Merges.{merge, folded}
 use Rattle.resin_meaning_forms.specs.Operators.{own_set, set_of_number, labelled, too_long, concatenated, calculated, combined_by, combined, signed, negated, applied, unary, compare_fault, or_fault, or_spent, with_ticks, equal, identical, order, sign_of, compared_by, compared, fits, instance_of}

@@ -13,7 +13,7 @@ use Rattle.resin_target.specs.Under.tree.declared.statement.Stmt.{Stmt}
 use Rattle.resin_target.specs.Under.machine.State.{State}
 use Rattle.resin_target.specs.Under.machine.Steps.{faults, charge}
 use Rattle.resin_target.specs.Under.machine.Objects.{throw_new, settled}
-use Rattle.resin_meaning.specs.Programs.{Prog, give, act, ◌>>=◌}
+use Rattle.resin_meaning_tables.specs.Under.meaning.Programs.{Prog, give, act, ◌>>=◌}
 use Rattle.resin_meaning_forms.specs.declared.course.Course.{Course}
 use Rattle.resin_meaning_forms.specs.Parts.{◌>>◌, looked, computed, faulted, thrown_new, ruled, text_cost, charge_text, charge_both, charged, given}
 use Rattle.resin_meaning_forms.specs.Blindness.{IsBlind}

@@ -8,7 +8,7 @@ use Rattle.resin_target.specs.Under.tree.declared.statement.StmtKind.{StmtKind}
 use Rattle.resin_target.specs.Under.machine.declared.stop.Stop.{Stop}
 use Rattle.resin_target.specs.Under.machine.declared.stop.Stop.TheVariants.{Thrown, Exit as Exited, Fault, Keeper, Memory}
 use Rattle.resin_target.specs.Under.machine.Steps.{charge}
-use Rattle.resin_meaning.specs.Programs.{Prog, give, ended, act, on_line, then_by}
+use Rattle.resin_meaning_tables.specs.Under.meaning.Programs.{Prog, give, ended, act, on_line, then_by}
 use Rattle.resin_meaning_forms.specs.declared.course.Course.{Course}
 use Rattle.resin_meaning_forms.specs.declared.course.Course.TheVariants.{Next, Break, Continue, Return}
 use Rattle.resin_meaning_forms.specs.declared.course.Flow.{Flow}

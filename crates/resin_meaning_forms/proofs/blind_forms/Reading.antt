@@ -10,8 +10,8 @@ use Rattle.resin_builtin.specs.Under.value.declared.value.Value.TheVariants.{Tex
 use Rattle.resin_builtin.specs.Under.value.Trees.{text}
 use Rattle.resin_builtin.specs.Under.value.Changes.{put, empty}
 use Rattle.resin_target.specs.Under.scope.Chained.{chain_of}
-use Rattle.resin_meaning.specs.Programs.{Prog, ◌>>=◌}
-use Rattle.resin_meaning.specs.LeavingWrites.{ask_filters}
+use Rattle.resin_meaning_tables.specs.Under.meaning.Programs.{Prog, ◌>>=◌}
+use Rattle.resin_meaning_tables.specs.Under.meaning.LeavingWrites.{ask_filters}
 use Rattle.resin_meaning_forms.specs.Parts.{Evals, looked}
 use Rattle.resin_meaning_forms.specs.Invoke.{call_object}
 use Rattle.resin_meaning_forms.specs.Writes.{plain, text_answer}

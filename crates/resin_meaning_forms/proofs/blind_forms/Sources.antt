@@ -13,7 +13,7 @@ use Rattle.resin_target.specs.Under.tree.declared.declaration.Program.{Program}
 use Rattle.resin_target.specs.Under.tree.declared.statement.Stmt.{Stmt}
 use Rattle.resin_target.specs.Under.machine.declared.stop.Stop.TheVariants.{Fault, Memory}
 use Rattle.resin_target.specs.Under.machine.Objects.{declare_function, declare_class}
-use Rattle.resin_meaning.specs.Programs.{Prog, give, stop, act, on_line, ◌>>=◌}
+use Rattle.resin_meaning_tables.specs.Under.meaning.Programs.{Prog, give, stop, act, on_line, ◌>>=◌}
 use Rattle.resin_meaning_forms.specs.declared.course.Course.{Course}
 use Rattle.resin_meaning_forms.specs.Parts.{Evals, faulted, ◌>>◌}
 use Rattle.resin_meaning_forms.specs.Invoke.{block}

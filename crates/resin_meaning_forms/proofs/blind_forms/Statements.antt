@@ -28,7 +28,7 @@ use Rattle.resin_target.specs.Under.machine.declared.stop.Stop.TheVariants.{Thro
 use Rattle.resin_target.specs.Under.machine.State.{State}
 use Rattle.resin_target.specs.Under.machine.Steps.{awake}
 use Rattle.resin_target.specs.Under.machine.Variables.{assign as assign_variable, bind_global}
-use Rattle.resin_meaning.specs.Programs.{Prog, give, stop, ended, act, tried, ◌>>=◌}
+use Rattle.resin_meaning_tables.specs.Under.meaning.Programs.{Prog, give, stop, ended, act, tried, ◌>>=◌}
 use Rattle.resin_meaning_forms.specs.declared.course.Course.{Course}
 use Rattle.resin_meaning_forms.specs.declared.course.Course.TheVariants.{Next, Break, Continue, Return}
 use Rattle.resin_meaning_forms.specs.Parts.{Evals, faulted, looked, ◌>>◌}

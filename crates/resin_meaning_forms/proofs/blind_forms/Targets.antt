@@ -2,7 +2,7 @@
 use Rattle.std.specs.Prelude.{Option, ℕ}
 use Rattle.std.specs.Prelude.{List, [], ◌∷◌}
 use Rattle.resin_target.specs.Under.tree.declared.expression.PathStep.{PathStep, PathStep-F, out-PathStep}
-use Rattle.resin_meaning.specs.Programs.{Prog, give, ◌>>=◌}
+use Rattle.resin_meaning_tables.specs.Under.meaning.Programs.{Prog, give, ◌>>=◌}
 use Rattle.resin_target.specs.declared.path.Index.TheVariants.{At, Next}
 use Rattle.resin_target.specs.declared.path.Path.{Path}
 use Rattle.resin_target.specs.Paths.{no_postfix, with_index, with_property}

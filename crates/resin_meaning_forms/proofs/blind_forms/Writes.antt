@@ -20,8 +20,8 @@ use Rattle.resin_target.specs.Under.stage.Lines.{header_line}
 use Rattle.resin_target.specs.Under.heap.declared.prelude.PreludeClass.TheVariants.{ValueError}
 use Rattle.resin_target.specs.Under.machine.State.{State}
 use Rattle.resin_target.specs.Under.machine.Leaving.{buffer, send_page, send_header, send_status, send_mail}
-use Rattle.resin_meaning.specs.Programs.{Prog, give, act, ◌>>=◌}
-use Rattle.resin_meaning.specs.LeavingWrites.{leaving_write}
+use Rattle.resin_meaning_tables.specs.Under.meaning.Programs.{Prog, give, act, ◌>>=◌}
+use Rattle.resin_meaning_tables.specs.Under.meaning.LeavingWrites.{leaving_write}
 use Rattle.resin_meaning_forms.specs.declared.outgoing.Outgoing.{Outgoing}
 use Rattle.resin_meaning_forms.specs.declared.outgoing.Outgoing.TheVariants.{Page, Header as HeaderLine, Status, Mail}
 use Rattle.resin_meaning_forms.specs.Parts.{Evals, computed, faulted, thrown_new, looked, charge_text, ◌>>◌}
