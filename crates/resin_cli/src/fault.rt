@@ -1,8 +1,8 @@
 //! Why the program ends with another status than 0, and what it says then.
 
 use resin_serve::Status;
+use resin_sqlite::DatabaseFault;
 use std::alloc::AllocError;
-use std::io;
 use thiserror::Error;
 
 /// Why the program ends with another status than 0.
@@ -14,6 +14,10 @@ pub(crate) enum Fault {
     BadTrace { offset: u64 },
     #[error("read fault")]
     Read,
+    #[error("{path}: can't be opened\nread fault")]
+    NotOpened { path: &'static str },
+    #[error("resin.db: {0}\nread fault")]
+    Database(DatabaseFault),
     #[error("write fault")]
     Write,
     #[error("trace too long")]
@@ -49,7 +53,7 @@ impl Fault {
         match self {
             Fault::Usage => Status::Usage,
             Fault::BadTrace { offset } => Status::BadTrace { offset: *offset },
-            Fault::Read => Status::ReadFault,
+            Fault::Read | Fault::NotOpened { .. } | Fault::Database(_) => Status::ReadFault,
             Fault::Write => Status::WriteFault,
             Fault::TraceTooLong => Status::TraceTooLong,
             Fault::Memory => Status::Memory,
@@ -64,12 +68,12 @@ impl From<AllocError> for Fault {
     }
 }
 
-impl From<io::Error> for Fault {
-    /// A file that can't be opened is a read fault, but for want of memory.
-    fn from(error: io::Error) -> Fault {
-        match error.kind() {
-            io::ErrorKind::OutOfMemory => Fault::Memory,
-            _ => Fault::Read,
+impl From<DatabaseFault> for Fault {
+    /// A database that can't be opened is a read fault, but for want of memory.
+    fn from(fault: DatabaseFault) -> Fault {
+        match fault {
+            DatabaseFault::Memory => Fault::Memory,
+            fault => Fault::Database(fault),
         }
     }
 }

@@ -6,8 +6,8 @@ mod fault;
 
 use crate::fault::Fault;
 use resin_edge::{Folder, StdSink, StdSource};
-use resin_memory::CalmTables;
 use resin_serve::{Ended, serve};
+use resin_sqlite::{DatabaseFault, SqliteTables};
 use std::fs::{File, OpenOptions};
 use std::process::ExitCode;
 use std::{env, io};
@@ -21,14 +21,23 @@ fn words(rt: &HostRuntime) -> Result<Vec<String>, Fault> {
     }
 }
 
+// A file of a path that was opened, or why it wasn't.
+fn opened(path: &'static str, file: io::Result<File>) -> Result<File, Fault> {
+    match file {
+        Ok(file) => Ok(file),
+        Err(error) if error.kind() == io::ErrorKind::OutOfMemory => Err(Fault::Memory),
+        Err(_) => Err(Fault::NotOpened { path }),
+    }
+}
+
 // A file that is written to at its end, and made where there is none.
-fn appended(rt: &HostRuntime, path: &str) -> Result<File, Fault> {
-    Ok(OpenOptions::new().append(true).create(true).open(rt, path)?)
+fn appended(rt: &HostRuntime, path: &'static str) -> Result<File, Fault> {
+    opened(path, OpenOptions::new().append(true).create(true).open(rt, path))
 }
 
 // A file that is made anew.
-fn made_anew(rt: &HostRuntime, path: &str) -> Result<File, Fault> {
-    Ok(File::create(rt, path)?)
+fn made_anew(rt: &HostRuntime, path: &'static str) -> Result<File, Fault> {
+    opened(path, File::create(rt, path))
 }
 
 // The file of the log: `journal.log`, made anew, where the words begin with `record`, else `denial.log`.
@@ -48,8 +57,8 @@ fn run(rt: &HostRuntime) -> Result<Ended, Fault> {
     let mut log = StdSink::new(log_file(rt, &words)?);
     let mut mail = StdSink::new(appended(rt, "outbox.txt")?);
     let mut files = Folder::new(alloc, rt.clone()?, "site")?;
-    let mut tables = CalmTables::new(alloc);
-    Ok(serve(
+    let mut tables = SqliteTables::open(rt, "resin.db")?;
+    let ended = serve(
         alloc,
         &words,
         &mut trace,
@@ -58,7 +67,16 @@ fn run(rt: &HostRuntime) -> Result<Ended, Fault> {
         &mut mail,
         &mut files,
         &mut tables,
-    ))
+    );
+    tell(rt, tables.last_fault());
+    Ok(ended)
+}
+
+// Says why calls on the tables failed, where some did.
+fn tell(rt: &HostRuntime, fault: Option<DatabaseFault>) {
+    if let Some(fault) = fault {
+        let _ = eprintln!(rt; "resin.db: {fault}");
+    }
 }
 
 fn main(rt: HostRuntime) -> ExitCode {
