@@ -21,19 +21,23 @@ class OwnNote extends Policy {
     }
 }
 
-// Marks what came with a request. It may leave, but begins no tag of a page.
+// Marks what came with a request. It may leave, but it is no part of a page or of a statement but data.
 class FromOutside extends Policy { }
 
 class NoForeignTags extends Filter {
     function filter_write($data, $context) {
-        for ($at = strpos($data, '<'); $at !== false; $at = strpos($data, '<', $at + 1)) {
-            foreach (policy_get($data[$at]) as $policy) {
-                if ($policy instanceof FromOutside) throw new PolicyException('a tag from outside');
-            }
-        }
-        return $data;
+        if (html_structure($data, 'FromOutside')) return $data;
+        throw new PolicyException('a tag from outside');
     }
 }
 filter_add('http', new NoForeignTags());
 
-function input($name) { return policy_add($_GET[$name] ?? '', new FromOutside()); }
+class NoForeignSql extends Filter {
+    function filter_write($data, $context) {
+        if (sql_structure($data, 'FromOutside')) return $data;
+        throw new PolicyException('a statement from outside');
+    }
+}
+filter_add('sql', new NoForeignSql());
+
+function input($name) { return policy_add($_GET[$name] ?? $_POST[$name] ?? '', new FromOutside()); }

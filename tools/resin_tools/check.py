@@ -8,7 +8,6 @@ from .fault import Wrong
 from .left_out import instead_of_form, otherwise
 from .names import early_parents, unknown_names, wrong_counts
 from .php import Token, read_source
-from .runtime_names import FUNCTIONS_NOT_BUILT
 from .scripts import Finding, Script
 
 _INPUT = re.compile(r"\$_(?:GET|POST|COOKIE|SERVER)\b")
@@ -25,7 +24,7 @@ def check_site(checker: Path, folder: Path, before: dict[Path, Script] | None = 
     scripts = [read_script(checker, path, known.get(path)) for path in script_paths(folder)]
     known.clear()
     known.update({script.path: script for script in scripts})
-    looks = [faults, early_parents, wrong_counts, read_otherwise, not_built]
+    looks = [faults, early_parents, wrong_counts, read_otherwise]
     found = [finding for script in scripts for look in looks for finding in look(script)]
     found += unknown_names(scripts)
     found += [finding for script in scripts if script.path == folder / "site" / "boot.php" for finding in guards(script)]
@@ -99,15 +98,6 @@ def read_otherwise(script: Script) -> Iterator[Finding]:
         elif token.kind == "inline":
             for tag in _SHORT_TAG.finditer(token.text):
                 yield script.warning(token.start + tag.start(), "this is text, which is sent as it stands", "instead: `<?php`, `<?=`")
-
-
-def not_built(script: Script) -> Iterator[Finding]:
-    """What the runtime reads and doesn't do yet."""
-    code = [Token("op", ";", 0), *script.read, Token("op", ";", len(script.source))]
-    for before, token, behind in zip(code, code[1:], code[2:]):
-        name = token.text.lower() if token.kind == "name" else ""
-        if name in FUNCTIONS_NOT_BUILT and behind.text == "(" and before.text != "->" and before.text.lower() != "function":
-            yield script.warning(token.start, f"{name} isn't built yet: its call is the fault UndefinedFunction")
 
 
 # ---- boot.php

@@ -337,12 +337,17 @@ NAMES = [
         "gc_collect_cycles memory_get_usage setlocale version_compare",
     ),
     Row(
-        "`fopen`, `fread`, `file`, `is_file`, `scandir`, `mysqli_query`, `new PDO(..)`, `exec`, `curl_init`",
+        "`fopen`, `fread`, `file`, `is_file`, `scandir`, `exec`, `curl_init`",
         "nothing: a script reaches nothing outside its site",
         functions="fopen fread fgets fgetcsv fputcsv fwrite fputs fclose feof flock file readfile is_file is_dir is_readable is_writable mkdir rmdir opendir "
         "scandir glob rename copy touch chmod filesize filemtime basename dirname pathinfo realpath tempnam move_uploaded_file "
-        "is_uploaded_file mysqli_connect mysqli_query mysqli_real_escape_string mysql_connect mysql_query mysql_real_escape_string sqlite_query pg_query "
+        "is_uploaded_file "
         "exec system shell_exec passthru popen proc_open escapeshellarg curl_init curl_exec fsockopen stream_context_create gethostbyname",
+    ),
+    Row(
+        "`mysqli_query`, `new PDO(..)`",
+        "`sql_query`, over the tables of the site",
+        functions="mysqli_connect mysqli_query mysqli_real_escape_string mysql_connect mysql_query mysql_real_escape_string sqlite_query pg_query",
         classes="PDO mysqli SQLite3",
     ),
     Row("`new stdClass()`, `new ArrayObject()`", "an array, or a class of your own", classes="stdClass ArrayObject ArrayIterator SplObjectStorage SplStack SplQueue"),

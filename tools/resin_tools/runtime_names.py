@@ -12,7 +12,7 @@ CONSTANTS = frozenset("true false null PHP_INT_MAX PHP_INT_MIN PHP_EOL FILE_APPE
 _BY_COUNT = {
     (0, 0): "ob_end_clean ob_end_flush ob_get_clean ob_start",
     (1, 1): "abs addslashes array_keys array_values bin2hex chr count file_exists file_get_contents get_class htmlspecialchars http_response_code intval is_array is_bool is_int is_null "
-    "is_numeric is_object is_string md5 nl2br ord policy_get rawurlencode sha1 sql_quote strlen strrev strtolower strtoupper strval ucfirst unlink urlencode",
+    "is_numeric is_object is_string md5 nl2br ord policy_get rawurlencode sha1 sql_query sql_quote strlen strrev strtolower strtoupper strval ucfirst unlink urlencode",
     (1, 2): "array_reverse header ltrim rtrim trim",
     (1, None): "sprintf",
     (2, 2): "array_key_exists explode filter_add filter_func_add filter_remove html_structure implode intdiv policy_add policy_remove sql_structure "
@@ -26,10 +26,7 @@ _BY_COUNT = {
 # How many arguments a function takes, at least and at most; None where there may be any number.
 COUNTS: dict[str, tuple[int, int | None]] = {name: counts for counts, names in _BY_COUNT.items() for name in names.split()}
 
-# A call of one of these is the fault UndefinedFunction, though no script may declare it.
-FUNCTIONS_NOT_BUILT = frozenset(["sql_query"])
-
-FUNCTIONS = FUNCTIONS_NOT_BUILT | COUNTS.keys()
+FUNCTIONS = frozenset(COUNTS)
 
 CLASSES = frozenset(
     "ArgumentCountError ArithmeticError DivisionByZeroError Error Exception Filter LostPolicy NoExport Policy PolicyException SqlException Throwable "

@@ -13,7 +13,7 @@ from resin_tools.check import faults, read_otherwise
 from resin_tools.checker import Fault, find_fault
 from resin_tools.left_out import FORMS, LESS, NAMES, OTHERWISE, instead_of
 from resin_tools.php import Lines, read_source, tokens
-from resin_tools.runtime_names import CLASSES, CONSTANTS, COUNTS, FUNCTIONS, FUNCTIONS_NOT_BUILT, KEYWORDS, SERVER_KEYS
+from resin_tools.runtime_names import CLASSES, CONSTANTS, COUNTS, FUNCTIONS, KEYWORDS, SERVER_KEYS
 from resin_tools.scripts import Script
 
 TOP = TOOLS.parent
@@ -81,12 +81,13 @@ class Tables(unittest.TestCase):
 
     def test_the_page_tells_the_functions_and_what_they_take(self):
         told: dict[str, str] = {}
-        for head in ("Builtin functions", "Files", "Filters", "Headers, the status, mail and buffers", "Policies"):
+        for head in ("Builtin functions", "Files", "Filters", "Guards against injection", "Headers, the status, mail and buffers", "Policies"):
             for row in rows(section(head)):
                 cell = row.split(" | ")[0]
                 shared = re.search(r"`\(([^)]*)\)`", cell)
                 told |= {name: shared[1] if shared else "" for name in re.findall(r"`(\w+)`", cell)}
                 told |= dict(re.findall(r"`(\w+)\(([^`]*)\)`", cell))
+        told |= dict(re.findall(r"^`(\w+)\(([^`]*)\)` carries out", section("Tables"), re.M))
         for method in ("export_check", "merge", "filter_write", "filter_func", "filter_read"):
             del told[method]
         for channel in ("http", "email", "file", "code", "input"):
@@ -98,10 +99,8 @@ class Tables(unittest.TestCase):
         least = len([word for word in words if word != ".." and " = " not in word])
         return least, None if ".." in words else len(words)
 
-    def test_the_page_tells_the_classes_and_what_is_not_built(self):
+    def test_the_page_tells_the_classes_and_the_server_keys(self):
         self.assertEqual({found[1] for row in rows(section("Exceptions")) if (found := re.match(r"\| `(\w+)`", row))} | {"Policy", "NoExport", "LostPolicy", "Filter"}, CLASSES)
-        page = (TOP / "docs" / "LANGUAGE.md").read_text()
-        self.assertEqual(set(re.findall(r"^\| `(\w+)` \| `UndefinedFunction`: it isn't built yet", page, re.M)), FUNCTIONS_NOT_BUILT)
         server = re.search(r"- `\$_SERVER` has (.*)", (TOP / "docs" / "FORMATS.md").read_text())
         assert server
         self.assertEqual(set(re.findall(r"`(\w+)`", server[1])), SERVER_KEYS)
@@ -377,11 +376,6 @@ class Names(Marked):
         self.assertEqual([head.partition(": ")[2] for head in self.heads("a.php")], [f"error: {RUNTIME} function array_map", "error: no program goes on like this (Syntax)"])
         self.assertEqual(len(self.heads("b.php")), 2)
         self.assertEqual(self.heads("c.php"), [])
-
-    def test_what_is_not_built(self):
-        self.put("site/a.php", "<?php $a = sql_query('SELECT 1');\ninclude 'b.php';\n$a->unlink('c');")
-        heads = self.heads("a.php")
-        self.assertEqual(heads, ["1:12: warning: sql_query isn't built yet: its call is the fault UndefinedFunction"])
 
 
 class Guards(Marked):
