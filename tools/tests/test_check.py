@@ -90,7 +90,7 @@ class Tables(unittest.TestCase):
         told |= dict(re.findall(r"^`(\w+)\(([^`]*)\)` carries out", section("Tables"), re.M))
         for method in ("export_check", "merge", "filter_write", "filter_func", "filter_read"):
             del told[method]
-        for channel in ("http", "email", "file", "code", "input"):
+        for channel in ("http", "email", "file", "sql", "code", "input"):
             del told[channel]
         self.assertEqual({name: self.counts(parameters) for name, parameters in told.items()}, COUNTS)
 
