@@ -26,7 +26,7 @@ class Picture(unittest.TestCase):
         found = lines(PICTURE.read_text())
         self.assertEqual(found[0][0], "$ tools/resin live demo")
         denied = [text for text, colour in found if colour == "#ff6b6b"]
-        self.assertRegex(denied[0], r"^[\d:]{8}  DENIED  policy PasswordPolicy#2, channel http, bytes 0-2, by PolicyException, request 3: GET /password\.php$")
+        self.assertRegex(denied[0], r"^[\d:]{8}  DENIED  policy PasswordPolicy#3, channel http, bytes 0-2, by PolicyException, request 3: GET /password\.php$")
         self.assertEqual([text for text, _ in found][-2:], ["http://127.0.0.1:8080/password.php", "Uncaught PolicyException"])
         self.assertIn("](docs/live.svg)", (TOOLS.parent / "README.md").read_text())
 

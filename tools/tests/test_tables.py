@@ -232,7 +232,7 @@ class Tables(Folder):
         self.serve(["""<?php sql_query('CREATE TABLE t (a TEXT)'); sql_query("INSERT INTO t VALUES ('it''" . policy_add('s', new NoExport()) . "')");"""])
         [body] = self.serve(["<?php $r = sql_query('SELECT a FROM t'); echo substr($r[0]['a'], 0, 3), $r[0]['a'];"])
         self.assertEqual(body[:3], b"it'")
-        self.assertIn("write=2 channel=http policy=NoExport#2", (self.folder / "denial.log").read_text())
+        self.assertIn("write=2 channel=http policy=NoExport#1", (self.folder / "denial.log").read_text())
         self.assertIn("bytes=3-4", (self.folder / "denial.log").read_text())
         with sqlite3.connect(self.folder / "resin.db") as file:
             self.assertEqual(file.execute("SELECT value FROM cells ORDER BY column_number").fetchall(), [("it's",), ('resin2 1 1 2\nO:8:"NoExport":0:{}\n0\n3\n1 0\n',)])
