@@ -1,4 +1,5 @@
 pub mod LeavingWrites
+pub mod Plans
 pub mod Parts
 pub mod Operands
 pub mod Invoke
@@ -15,6 +16,9 @@ pub mod Channels
 pub mod Sources
 pub mod Imports
 pub mod Inputs
+pub mod Cells
+pub mod Totals
+pub mod Queries
 pub mod Calls
 pub mod Assignments
 pub mod Expressions

@@ -26,11 +26,13 @@ use Rattle.resin_meaning_forms.specs.Parts.{Evals, computed, faulted, thrown_new
 use Rattle.resin_meaning_forms.specs.Writes.{plain, context_of, leave, write_page}
 use Rattle.resin_meaning_forms.specs.Functions.{counted, arguments_of}
 use Rattle.resin_meaning_forms.specs.Files.{flags_in, get_contents, put_contents, unlink, exists}
+use Rattle.resin_meaning_forms.specs.Queries.{sql_query}
 use Rattle.resin_meaning_forms.specs.Channels.{text_or_false, is_open, flushed, status_in, status_of, leave_status, set_status, breaks_lines, is_one_line, mail_context, unfit, needed, optional, is_count, flag_in, channel_work, only_looks, channel_function}
 use Rattle.resin_meaning_forms.specs.Blindness.{IsBlind}
 use Rattle.resin_meaning_forms.proofs.Blindness.{BlindEvals, blinding}
 use Rattle.resin_meaning_forms.proofs.blind_forms.Writes.{leave_blind, write_page_blind}
 use Rattle.resin_meaning_forms.proofs.blind_forms.Files.{exists_blind, get_contents_blind, put_contents_blind, unlink_blind}
+use Rattle.resin_meaning_forms.proofs.blind_forms.Queries.{sql_query_blind}
 use Rattle.resin_meaning_forms.proofs.blind_forms.Parts.{charged_blind, given_blind}
 use Rattle.resin_meaning_forms.proofs.blind_forms.Functions.{arguments_of_blind, counted_blind}
 
@@ -45,8 +47,8 @@ pub set_status_blind : {own : Option (List ℕ)} (ev : Evals) (a1 : Option ℕ) 
 set_status_blind ev None n h = search blinding depth 12
 set_status_blind ev (Some status) n h = search (blinding, leave_status_blind) depth 12
 
-pub unbuilt_blind : {own : Option (List ℕ)} {A : Type 0} → IsBlind {A = A} own unfit
-unbuilt_blind = search blinding depth 12
+pub unfit_blind : {own : Option (List ℕ)} {A : Type 0} → IsBlind {A = A} own unfit
+unfit_blind = search blinding depth 12
 
 pub channel_work_blind : {own : Option (List ℕ)} (ev : Evals) (f : ChannelFunction) (ts : List Tree) → BlindEvals own ev → IsBlind {A = Tree} own (channel_work ev f ts)
 channel_work_blind ev BufferStart ts h = search blinding depth 12
@@ -60,7 +62,8 @@ channel_work_blind ev FilePutContents (text path ∷ text t ∷ ts) h = search (
 channel_work_blind ev FileGetContents (text path ∷ ts) h = search (blinding, get_contents_blind) depth 12
 channel_work_blind ev Unlink (text path ∷ ts) h = search (blinding, unlink_blind) depth 12
 channel_work_blind ev FileExists (text path ∷ ts) h = search (blinding, exists_blind) depth 12
-channel_work_blind ev f ts h = search (blinding, unbuilt_blind) depth 12
+channel_work_blind ev SqlQuery (text query ∷ ts) h = search (blinding, sql_query_blind) depth 12
+channel_work_blind ev f ts h = search (blinding, unfit_blind) depth 12
 
 pub channel_function_blind : {own : Option (List ℕ)} (ev : Evals) (f : ChannelFunction) (ts : List Tree) → BlindEvals own ev → IsBlind {A = Value} own (channel_function ev f ts)
 channel_function_blind ev f ts h = search (blinding, charged_blind, given_blind, counted_blind, arguments_of_blind, channel_work_blind) depth 12

@@ -1,5 +1,5 @@
 -- The programs of Functions are blind to the sessions of others.
-use Rattle.std.specs.Prelude.{ℕ, ◌+◌, ◌==◌, List, [], ◌∷◌, ◌++◌, length, Bool, false, if◌then◌else◌, Option, None, Some, Ok}
+use Rattle.std.specs.Prelude.{ℕ, ◌+◌, ◌==◌, List, [], ◌∷◌, ◌++◌, length, filter, Bool, true, false, if◌then◌else◌, Option, None, Some, Ok}
 use Rattle.resin_builtin.specs.Under.label.Sets.{NumberSet, empty as no_labels, numbers, set_of, insert, remove}
 use Rattle.resin_builtin.specs.Under.lstr.Texts.{Text as LabelledText, marked, unmarked, policies_in_order, bytes_of}
 use Rattle.resin_target.specs.Under.journal.declared.channel.Channel.{Channel}
@@ -8,7 +8,7 @@ use Rattle.resin_target.specs.Under.journal.Channels.{channel_name}
 use Rattle.std.specs.Str.{bytes_eq}
 use Rattle.resin_builtin.specs.Under.scalar.declared.faults.ScriptFault.TheVariants.{BadOperand}
 use Rattle.resin_builtin.specs.Under.value.declared.value.Value.{Value}
-use Rattle.resin_builtin.specs.Under.value.Trees.{Tree, null, integer, text, object}
+use Rattle.resin_builtin.specs.Under.value.Trees.{Tree, null, boolean, integer, text, object}
 use Rattle.resin_builtin.specs.Under.value.Seen.{tree_of}
 use Rattle.resin_builtin.specs.Under.value.Values.{value_of}
 use Rattle.resin_target.specs.Under.ops.Conversions.{int_of_value}
@@ -23,18 +23,22 @@ use Rattle.resin_builtin.specs.Rows.{mapped}
 use Rattle.resin_builtin.specs.Calls.{called, cost}
 use Rattle.resin_target.specs.Under.heap.declared.prelude.PreludeClass.{PreludeClass}
 use Rattle.resin_target.specs.Under.heap.declared.prelude.PreludeClass.TheVariants.{ArgumentCountError, ValueError, TypeError, Policy, Filter}
+use Rattle.resin_target.specs.Under.machine.State.{State}
 use Rattle.resin_target.specs.Under.machine.Steps.{Act, charge}
-use Rattle.resin_target.specs.Under.machine.Objects.{settled}
+use Rattle.resin_target.specs.Under.machine.Objects.{settled, find_class_of}
 use Rattle.resin_target.specs.Under.machine.Filters.{add_filter, without_filter, add_function_filter}
 use Rattle.resin_target.specs.Under.machine.Leaving.{class_name_of}
+use Rattle.resin_guard.specs.Verdicts.{sql_verdict, html_verdict}
+use Rattle.resin_guard.specs.declared.judge.Guard.{Guard}
+use Rattle.resin_guard.specs.declared.judge.Guard.TheVariants.{Pass}
 use Rattle.resin_meaning_tables.specs.Under.meaning.Programs.{Prog, give, act, ◌>>=◌}
 use Rattle.resin_meaning_forms.specs.declared.callee.StateFunction.{StateFunction}
-use Rattle.resin_meaning_forms.specs.declared.callee.StateFunction.TheVariants.{PolicyAdd, PolicyRemove, PolicyGet, FilterAdd, FilterRemove, FilterFunctionAdd, GetClass}
+use Rattle.resin_meaning_forms.specs.declared.callee.StateFunction.TheVariants.{PolicyAdd, PolicyRemove, PolicyGet, FilterAdd, FilterRemove, FilterFunctionAdd, GetClass, SqlStructure, HtmlStructure}
 use Rattle.resin_meaning_forms.specs.Parts.{Evals, computed, faulted, ruled, thrown_new, looked, ◌>>◌}
-use Rattle.resin_meaning_forms.specs.Merges.{is_under, list_of_objects, merge, folded}
+use Rattle.resin_meaning_forms.specs.Merges.{is_of_class, is_under, list_of_objects, merge, folded}
 use Rattle.resin_meaning_forms.specs.Operators.{set_of_number}
 use Rattle.resin_meaning_forms.specs.Writes.{plain}
-use Rattle.resin_meaning_forms.specs.Functions.{counted, with_folded, argument, cast_argument, format_argument, format_arguments, behind_format, arguments_on, sprintf_arguments, arguments, answer_set, work, builtin, kinds_of, arguments_of_on, arguments_of, nameable, channel_among, channel_for, number_in, object_under, with_policy, without_policy, policies_of, seen, class_name, remove_filter, state_work, take_all, state_function}
+use Rattle.resin_meaning_forms.specs.Functions.{counted, with_folded, argument, cast_argument, format_argument, format_arguments, behind_format, arguments_on, sprintf_arguments, arguments, answer_set, work, builtin, kinds_of, arguments_of_on, arguments_of, nameable, channel_among, channel_for, number_in, object_under, with_policy, without_policy, policies_of, seen, class_name, remove_filter, marks_under, is_pass, structure, state_work, take_all, state_function}
 use Rattle.resin_meaning_forms.specs.Blindness.{IsBlind}
 use Rattle.resin_meaning_forms.proofs.Blindness.{BlindEvals, blinding}
 use Rattle.resin_meaning_forms.proofs.blind_forms.Merges.{folded_blind, list_of_objects_blind, merge_blind}
@@ -118,6 +122,9 @@ pub class_name_blind : {own : Option (List ℕ)} (t : Tree) → IsBlind {A = Tre
 class_name_blind (object o) = search blinding depth 12
 class_name_blind t = search blinding depth 12
 
+pub structure_blind : {own : Option (List ℕ)} (verdict : (NumberSet → LabelledText → Guard)) (t : LabelledText) (name : LabelledText) → IsBlind {A = Tree} own (structure verdict t name)
+structure_blind verdict t name = search blinding depth 12
+
 pub state_work_blind : {own : Option (List ℕ)} (f : StateFunction) (ts : List Tree) → IsBlind {A = Tree} own (state_work f ts)
 state_work_blind PolicyAdd (v ∷ p ∷ ts) = search (blinding, object_under_blind, with_policy_blind) depth 12
 state_work_blind PolicyRemove (v ∷ p ∷ ts) = search (blinding, object_under_blind, without_policy_blind) depth 12
@@ -126,6 +133,8 @@ state_work_blind FilterAdd (text name ∷ f ∷ ts) = search (blinding, channel_
 state_work_blind FilterRemove (text name ∷ f ∷ ts) = search (blinding, channel_for_blind, object_under_blind) depth 12
 state_work_blind FilterFunctionAdd (text name ∷ f ∷ ts) = search (blinding, object_under_blind) depth 12
 state_work_blind GetClass (o ∷ ts) = search (blinding, class_name_blind) depth 12
+state_work_blind SqlStructure (text t ∷ text name ∷ ts) = search (blinding, structure_blind) depth 12
+state_work_blind HtmlStructure (text t ∷ text name ∷ ts) = search (blinding, structure_blind) depth 12
 state_work_blind f ts = search blinding depth 12
 
 pub take_all_blind : {own : Option (List ℕ)} (a0 : List Tree) → IsBlind {A = (Unit {0})} own (take_all a0)

@@ -1,9 +1,9 @@
 -- The programs of Keeping are blind to the sessions of others.
 use Rattle.std.specs.Prelude.{ℕ, Bool, ◌==◌, ◌&&◌, nat_lt, not, slice_index_or, List, [], ◌∷◌, ◌++◌, length, map, zip, codes, Option, None, Some, if◌then◌else◌}
 use Rattle.std.specs.Option.{option_map, option_and_then}
-use Rattle.resin_builtin.specs.Under.label.Sets.{NumberSet, numbers, empty as no_labels, set_of as labels_of}
+use Rattle.resin_builtin.specs.Under.label.Sets.{NumberSet, numbers, same, empty as no_labels, set_of as labels_of}
 use Rattle.resin_builtin.specs.Under.lstr.declared.limits.TheConstants.{LONGEST}
-use Rattle.resin_builtin.specs.Under.lstr.Texts.{Text as LabelledText, carrying}
+use Rattle.resin_builtin.specs.Under.lstr.Texts.{Text as LabelledText, carrying, distinct}
 use Rattle.resin_builtin.specs.Under.scalar.declared.faults.ScriptFault.TheVariants.{NotStorable, TextTooLong, BadShadow}
 use Rattle.resin_builtin.specs.Under.value.declared.key.Key.{Key}
 use Rattle.resin_builtin.specs.Under.value.declared.key.Key.TheVariants.{Int as IntKey, Text as TextKey}
@@ -26,7 +26,7 @@ use Rattle.resin_shadow.specs.Shadows.{places}
 use Rattle.resin_shadow.specs.Runs.{set_of}
 use Rattle.resin_meaning_tables.specs.Under.store.Entries.{Marked, LabelledEntry, Good, Bad, marks}
 use Rattle.resin_meaning_forms.specs.Parts.{faulted, looked, ◌>>◌}
-use Rattle.resin_meaning_forms.specs.Keeping.{frozen_policy, each_of, frozen_set, frozen_marks, or_not_storable, freeze_text, is_able, policy_class, name_in, set_fields, make_policy, make_lost, remade, thaw_said, thaw_policy, thaw_policies, labels_for, labelled, thaw_marked, thaw_short, size, thaw_entry}
+use Rattle.resin_meaning_forms.specs.Keeping.{frozen_policy, each_of, frozen_set, frozen_marks, or_not_storable, freeze_text, is_able, policy_class, name_in, set_fields, make_policy, make_lost, remade, thaw_said, thaw_policy, thaw_policies, labels_for, labelled, thaw_marked, thaw_sets, thaw_short, size, thaw_entry}
 use Rattle.resin_meaning_forms.specs.Blindness.{IsBlind}
 use Rattle.resin_meaning_forms.proofs.Blindness.{blinding}
 
@@ -64,6 +64,9 @@ thaw_policies_blind {own = own} so_far (t ∷ ts) = let ih = λ (y0 : List ℕ).
 
 pub thaw_marked_blind : {own : Option (List ℕ)} (d : Marked) → IsBlind {A = LabelledText} own (thaw_marked d)
 thaw_marked_blind d = search (blinding, thaw_policies_blind) depth 12
+
+pub thaw_sets_blind : {own : Option (List ℕ)} (w : Marks) → IsBlind {A = (List NumberSet)} own (thaw_sets w)
+thaw_sets_blind w = search (blinding, thaw_policies_blind) depth 12
 
 pub thaw_short_blind : {own : Option (List ℕ)} (a0 : LabelledEntry) → IsBlind {A = LabelledText} own (thaw_short a0)
 thaw_short_blind (Good d version) = search (blinding, thaw_marked_blind) depth 12

@@ -8,10 +8,10 @@ pub returns-in_default : goal.returns-in_default
 returns-in_default c =
     throw_there _ ArgumentCountError _ _ _ (no_page (tree_of c.args.class.now) c.args.text.now c.in_default.not-Text) c.throw.ensures.acts
 
-pub returns-in_default-2 : goal.returns-in_default-2
-returns-in_default-2 c =
-    rw c.in-Text.is (throw_there _ ArgumentCountError _ _ _ (no_page_class c.in-Text.text c.args.class.now c.in_default-2.not-Text) c.throw-in_default-2.ensures.acts)
+pub returns-in_default-class : goal.returns-in_default-class
+returns-in_default-class c =
+    rw c.in-Text.is (throw_there _ ArgumentCountError _ _ _ (no_page_class c.in-Text.text c.args.class.now c.in_default-class.not-Text) c.throw-in_default-class.ensures.acts)
 
 pub returns : goal.returns
 returns c =
-    rw (c.in-Text.is, c.in-Text-2.is) c.guarded_page.ensures
+    rw (c.in-Text.is, c.in-Text-class.is) c.guarded_page.ensures
