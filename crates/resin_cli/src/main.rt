@@ -32,7 +32,10 @@ fn opened(path: &'static str, file: io::Result<File>) -> Result<File, Fault> {
 
 // A file that is written to at its end, and made where there is none.
 fn appended(rt: &HostRuntime, path: &'static str) -> Result<File, Fault> {
-    opened(path, OpenOptions::new().append(true).create(true).open(rt, path))
+    opened(
+        path,
+        OpenOptions::new().append(true).create(true).open(rt, path),
+    )
 }
 
 // A file that is made anew.

@@ -6,6 +6,6 @@ pub mod meaning_forms {
 }
 
 pub use resin_meaning_forms::under::{
-    base, builtin, bytes, guard, heap, items, journal, label, lstr, machine, meaning, meaning_tables,
-    ops, scalar, store, target, tree, value,
+    base, builtin, bytes, guard, heap, items, journal, label, lstr, machine, meaning,
+    meaning_tables, ops, scalar, store, target, tree, value,
 };
