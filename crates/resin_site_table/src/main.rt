@@ -260,6 +260,7 @@ fn answers(alloc: Global, fuel: u32, fail: FailList, line: &str) -> Result<Strin
         } else if let Some(path) = field.strip_prefix("LOOK ") {
             push_line(&mut out, look(alloc, &served.files, path)?.as_str())?;
         } else if take(alloc, &mut served, &mut out, field)? {
+        } else {
             name = Some(field);
         }
     }
