@@ -195,14 +195,6 @@ fn numbers(alloc: Global, words: &str) -> Result<FailList, AllocError> {
     Ok(list)
 }
 
-/// Adds a line to those before it.
-fn push_line(out: &mut String, line: &str) -> Result<(), AllocError> {
-    if !out.is_empty() {
-        out.push('\n')?;
-    }
-    out.push_str(line)
-}
-
 /// A site under way: what it has kept, and the number of its next request.
 #[derive(Drop)]
 struct Served {
@@ -212,7 +204,27 @@ struct Served {
     number: u64,
 }
 
-/// Serves the request of a field, makes or shows a table, or tells that the field is the name of a file.
+/// Serves the request of a field, and shows its answer.
+fn serve(
+    alloc: Global,
+    served: &mut Served,
+    out: &mut String,
+    field: &str,
+) -> Result<(), AllocError> {
+    let number = served.number;
+    let text = answer(
+        alloc,
+        &mut served.site,
+        number,
+        field,
+        &mut served.files,
+        &mut served.tables,
+    )?;
+    served.number = number.saturating_add(1);
+    push_line(out, text.as_str())
+}
+
+/// Does what a field asks for: a table or a row is made, a table or a file is shown, or a request is served. `false` for the name of a file.
 fn take(
     alloc: Global,
     served: &mut Served,
@@ -225,22 +237,14 @@ fn take(
         tables::put_row(alloc, &mut served.tables, row)?;
     } else if let Some(name) = field.strip_prefix("show ") {
         push_line(out, tables::shown(alloc, &served.tables, name)?.as_str())?;
+    } else if let Some(path) = field.strip_prefix("LOOK ") {
+        push_line(out, look(alloc, &served.files, path)?.as_str())?;
     } else if is_request(field) {
-        let number = served.number;
-        let text = answer(
-            alloc,
-            &mut served.site,
-            number,
-            field,
-            &mut served.files,
-            &mut served.tables,
-        )?;
-        push_line(out, text.as_str())?;
-        served.number = number.saturating_add(1);
+        serve(alloc, served, out, field)?;
     } else {
-        return Ok(true);
+        return Ok(false);
     }
-    Ok(false)
+    Ok(true)
 }
 
 /// Takes the fields of a site one after the other, and answers its requests.
@@ -257,10 +261,7 @@ fn answers(alloc: Global, fuel: u32, fail: FailList, line: &str) -> Result<Strin
         if let Some(at) = name {
             put_file(&mut served.files, at, field)?;
             name = None;
-        } else if let Some(path) = field.strip_prefix("LOOK ") {
-            push_line(&mut out, look(alloc, &served.files, path)?.as_str())?;
-        } else if take(alloc, &mut served, &mut out, field)? {
-        } else {
+        } else if !take(alloc, &mut served, &mut out, field)? {
             name = Some(field);
         }
     }
