@@ -8,6 +8,7 @@ ghost use Rattle.resin_eval_channels.specs.Under.eval_nested.Running.{Performs};
 ghost use Rattle.resin_eval_channels.specs.Under.step_objects.Methods.{seen_method};
 ghost use Rattle.resin_eval_channels.specs.Under.step_parts.Callees.{IsCalled};
 ghost use Rattle.resin_eval_channels.specs.Under.value.Seen.{tree_of, trees_of};
+ghost use Rattle.resin_tree.specs.declared.expression.Call.TheVariants as written;
 ghost use Rattle.std.specs.Option.{option_map};
 ghost use Rattle.std.specs.Prelude.{map};
 
@@ -30,7 +31,7 @@ use resin_eval_channels::under::step_parts::names::find_callee;
 use resin_eval_channels::under::step_parts::reads::{list, plain};
 use resin_eval_channels::under::step_parts::statements::catch;
 use resin_eval_channels::under::value::{Value, Values};
-use resin_tree::Call;
+use resin_tree::{Boxed, Call, Expr, Import, Items, SharedBytes};
 use std::alloc::Global;
 
 /// Calls, by an evaluator.
@@ -157,6 +158,82 @@ impl<
         Ok(Value::Obj(o))
     }
 
+    // A call of a function.
+    fn function_call(
+        &self,
+        run: &mut Run<F, T>,
+        name: &SharedBytes,
+        es: &Items<Expr>,
+    ) -> Result<Value, Stop>
+        requires { Nests F.Files T.Tables N.pre N.post self.now.by.now }
+        ensures { Performs F.Files T.Tables (form.call_form (means self.now.by.now) (written.Function name.now es.now)) run.old result run.new }
+    {
+        let callee = find_callee(&run.machine, name.as_slice())?;
+        let args = self.by.values(run, es.as_slice())?;
+        self.call_found(run, name.as_slice(), &callee, args)
+    }
+
+    // A call of a method.
+    fn method_call(
+        &self,
+        run: &mut Run<F, T>,
+        a: &Boxed<Expr>,
+        name: &SharedBytes,
+        es: &Items<Expr>,
+    ) -> Result<Value, Stop>
+        requires { Nests F.Files T.Tables N.pre N.post self.now.by.now }
+        ensures { Performs F.Files T.Tables (form.call_form (means self.now.by.now) (written.Method a.now name.now es.now)) run.old result run.new }
+    {
+        let v = self.by.expr(run, a.get())?;
+        let o = object_of(&run.machine, &v)?;
+        let class = run.machine.class_of(o)?;
+        let found = find_method(&run.machine, class, name.as_slice())?;
+        let args = self.by.values(run, es.as_slice())?;
+        self.by.run_method(run, found.at, &found.function, o, args)
+    }
+
+    // A call of a method of the parent class.
+    fn parent_call(
+        &self,
+        run: &mut Run<F, T>,
+        name: &SharedBytes,
+        es: &Items<Expr>,
+    ) -> Result<Value, Stop>
+        requires { Nests F.Files T.Tables N.pre N.post self.now.by.now }
+        ensures { Performs F.Files T.Tables (form.call_form (means self.now.by.now) (written.Parent name.now es.now)) run.old result run.new }
+    {
+        let class = parent_class(&run.machine)?;
+        let found = find_method(&run.machine, class, name.as_slice())?;
+        let this = run.machine.read(b"this")?;
+        let o = object_of(&run.machine, &this)?;
+        let args = self.by.values(run, es.as_slice())?;
+        self.by.run_method(run, found.at, &found.function, o, args)
+    }
+
+    // A new object.
+    fn new_call(
+        &self,
+        run: &mut Run<F, T>,
+        name: &SharedBytes,
+        es: &Items<Expr>,
+    ) -> Result<Value, Stop>
+        requires { Nests F.Files T.Tables N.pre N.post self.now.by.now }
+        ensures { Performs F.Files T.Tables (form.call_form (means self.now.by.now) (written.New name.now es.now)) run.old result run.new }
+    {
+        let class = makeable(&run.machine, name.as_slice())?;
+        let args = self.by.values(run, es.as_slice())?;
+        self.new_object(run, class, args)
+    }
+
+    // An import.
+    fn import_call(&self, run: &mut Run<F, T>, kind: Import, e: &Boxed<Expr>) -> Result<Value, Stop>
+        requires { Nests F.Files T.Tables N.pre N.post self.now.by.now }
+        ensures { Performs F.Files T.Tables (form.call_form (means self.now.by.now) (written.Import kind e.now)) run.old result run.new }
+    {
+        let v = self.by.expr(run, e.get())?;
+        Importer { by: self.by }.import(run, kind, &v)
+    }
+
     /// A call as it is written: of a function, a method, a method of the parent class, `new`, or an import. What it reaches is found first, then its arguments are evaluated from
     /// the left, and then it runs. A constructor runs where the class has one.
     ///
@@ -167,36 +244,11 @@ impl<
         ensures { Performs F.Files T.Tables (form.call_form (means self.now.by.now) c.now) run.old result run.new }
     {
         match c {
-            Call::Function(name, es) => {
-                let callee = find_callee(&run.machine, name.as_slice())?;
-                let args = self.by.values(run, es.as_slice())?;
-                self.call_found(run, name.as_slice(), &callee, args)
-            }
-            Call::Method(a, name, es) => {
-                let v = self.by.expr(run, a.get())?;
-                let o = object_of(&run.machine, &v)?;
-                let class = run.machine.class_of(o)?;
-                let found = find_method(&run.machine, class, name.as_slice())?;
-                let args = self.by.values(run, es.as_slice())?;
-                self.by.run_method(run, found.at, &found.function, o, args)
-            }
-            Call::Parent(name, es) => {
-                let class = parent_class(&run.machine)?;
-                let found = find_method(&run.machine, class, name.as_slice())?;
-                let this = run.machine.read(b"this")?;
-                let o = object_of(&run.machine, &this)?;
-                let args = self.by.values(run, es.as_slice())?;
-                self.by.run_method(run, found.at, &found.function, o, args)
-            }
-            Call::New(name, es) => {
-                let class = makeable(&run.machine, name.as_slice())?;
-                let args = self.by.values(run, es.as_slice())?;
-                self.new_object(run, class, args)
-            }
-            Call::Import(kind, e) => {
-                let v = self.by.expr(run, e.get())?;
-                Importer { by: self.by }.import(run, *kind, &v)
-            }
+            Call::Function(name, es) => self.function_call(run, name, es),
+            Call::Method(a, name, es) => self.method_call(run, a, name, es),
+            Call::Parent(name, es) => self.parent_call(run, name, es),
+            Call::New(name, es) => self.new_call(run, name, es),
+            Call::Import(kind, e) => self.import_call(run, *kind, e),
         }
     }
 }

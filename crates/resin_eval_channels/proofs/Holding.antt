@@ -1,6 +1,7 @@
 -- Bytes that are to be held, each with its policies: what a text's policies are kept as, and new bytes behind those of an entry.
-use Rattle.std.proofs.Common.{◌≡◌, ℕ, suc, ◌+◌, ◌≤◌, ◌<◌, ◌^◌, Bool, true, false, cond, List, [], ◌∷◌, ◌++◌, length, Option, None, Some, Result, Ok, Err, inl, refl, sym, ap, subst, ◌∙◌, arith, length-append, IsErrAnd}
+use Rattle.std.proofs.Common.{◌≡◌, ℕ, ℤ, suc, ◌+◌, ◌≤◌, ◌<◌, ◌^◌, Bool, true, false, cond, List, [], ◌∷◌, ◌++◌, length, Option, None, Some, Result, Ok, Err, inl, refl, sym, ap, subst, ◌∙◌, arith, length-append, IsErrAnd}
 use Rattle.std.specs.FinMap.{empty}
+use Rattle.std.specs.Ordering.{int_eq}
 use Rattle.std.specs.Prelude.{zip, nat_le}
 use Rattle.std.specs.Option.{option_map, option_and_then}
 use Rattle.std.proofs.lemmas.List.{length-map}
@@ -21,10 +22,12 @@ use Rattle.resin_eval_queries.specs.Under.machine.declared.stop.Stop.TheVariants
 use Rattle.resin_eval_queries.specs.Under.machine.State.{State}
 use Rattle.resin_eval_queries.specs.Under.meaning.Programs.{Whole, Prog, give, then_by, ◌>>=◌, act}
 use Rattle.resin_eval_queries.specs.Under.meaning.Runs.{World, Does, seen, done}
-use Rattle.resin_eval_queries.specs.Under.meaning_forms.Files.{behind_held, longer}
+use Rattle.resin_eval_queries.specs.Under.meaning_forms.Files.{append_flag, behind_held, longer, to_hold}
 use Rattle.resin_eval_queries.specs.Under.meaning_forms.Keeping.{each_of, frozen_marks, or_not_storable, freeze_text}
 use Rattle.resin_eval_queries.specs.Under.meaning_forms.Parts.{faulted}
 use Rattle.resin_eval_queries.specs.Under.meaning_forms.Runs.{Runs, on_ok}
+use Rattle.resin_eval_queries.proofs.eval_nested_lemmas.Arms.{does_no, does_yes}
+use Rattle.resin_eval_queries.proofs.eval_nested_lemmas.Exits.{does_seen_none, does_seen_unbegun}
 use Rattle.resin_eval_queries.proofs.meaning_lemmas.Composition.{does_nothing}
 use Rattle.resin_eval_channels.specs.declared.files.Held.{Held}
 use Rattle.resin_eval_channels.specs.Held.{marked, IsHeld}
@@ -192,3 +195,11 @@ lost_by new (Bad bytes shadow) = lost_if _ _ _ (lost_fault BadShadow) (lost_faul
 
 pub behind_lost : {A : Type 0} (g : A → Marked) (new : Marked) (l : LabelledEntry) {u : World} (r : Result A Stop) → IsErrAnd r (λ e. e ≡ Memory) → Does (behind_held new l) u (on_ok g r) u
 behind_lost g new l r h = let e = err_from_is_err_and r h in rw (e.1, e.2) (lost_by new l)
+
+-- want of memory before anything is held
+pub hold_lost : {C : Type 0} (path : List ℕ) (flags : ℤ) (new : Marked) (g : C → Marked) {u : World} (r : Result C Stop) → IsErrAnd r (λ e. e ≡ Memory) → Does (to_hold path flags new) u (on_ok g r) u
+hold_lost path flags new g {u = u} r h = by_flags (int_eq flags append_flag) refl
+  where
+    by_flags : (b : Bool) → int_eq flags append_flag ≡ b → Does (to_hold path flags new) u (on_ok g r) u
+    by_flags true e = does_yes _ _ _ e (does_seen_unbegun _ _ g r h)
+    by_flags false e = does_no _ _ _ e (does_seen_none new g r h)

@@ -1,14 +1,17 @@
 //! Functions on files once their arguments are evaluated: policies are kept beside the bytes, and come back with them.
 ghost use Rattle.resin_eval_queries.specs.Under.meaning_forms.Files.{append_flag, behind_found, behind_held, contents_of, exists, flags_in, get_contents, is_flag, put_contents, put_data, to_hold, unlink};
+ghost use Rattle.resin_eval_queries.specs.Under.meaning_forms.Reading as passing;
 ghost use Rattle.resin_eval_queries.specs.Under.meaning_forms.Runs.{Runs, on_ok};
 ghost use Rattle.resin_eval_queries.specs.Under.eval_nested.Nested.{Nests, means};
 ghost use Rattle.resin_eval_queries.specs.Under.eval_nested.Running.{Performs};
+ghost use Rattle.resin_eval_queries.specs.Under.journal.declared.channel.Channel.TheVariants.{File};
+ghost use Rattle.resin_eval_queries.specs.Under.lstr.Texts.{bytes_of};
 ghost use Rattle.resin_eval_queries.specs.Under.store.Entries.{lift};
 ghost use Rattle.resin_eval_queries.specs.Under.value.Seen.{tree_of, trees_of};
 ghost use Rattle.std.specs.Option.{option_map};
 ghost use Rattle.std.specs.Ordering.{int_eq};
-ghost use Rattle.resin_eval_channels.specs.Held.{IsHeld, marked};
-ghost use Rattle.std.specs.Prelude.{IfOk, length, ◌++◌, ◌≡◌};
+ghost use Rattle.resin_eval_channels.specs.Held.{IsHeld, marked, written};
+ghost use Rattle.std.specs.Prelude.{IfOk, length, zip, ◌++◌, ◌≡◌};
 
 use resin_eval_queries::under::base::{Entry, Files, Tables};
 use resin_eval_queries::under::bytes::{Bytes, lawful_path};
@@ -81,9 +84,9 @@ fn joined_bytes(alloc: Global, old: &[u8], new: &[u8]) -> Result<Bytes, AllocErr
 }
 
 // New bytes behind those of an entry. A text may not be longer than the longest, before or after.
-fn behind_held(alloc: Global, m: &Machine, entry: &Entry, new: Held) -> Result<Held, Stop>
-    requires { IsHeld new }
-    ensures does { Runs (behind_held (marked new) (lift entry.now)) m.now (on_ok marked result) m.now }
+fn behind_held(alloc: Global, m: &Machine, entry: &Entry, new: &Held) -> Result<Held, Stop>
+    requires { IsHeld new.now }
+    ensures does { Runs (behind_held (marked new.now) (lift entry.now)) m.now (on_ok marked result) m.now }
     ensures held { IfOk result IsHeld }
 {
     let len = entry.bytes.as_slice().len();
@@ -117,9 +120,43 @@ fn to_hold<F: Files, T: Tables>(
         return Ok(new);
     }
     match run.read_file(path)? {
-        Some(entry) => behind_held(alloc, &run.machine, &entry, new),
+        Some(entry) => behind_held(alloc, &run.machine, &entry, &new),
         None => Ok(new),
     }
+}
+
+// Bytes beside their policies, and what is to be held of them.
+fn hold<F: Files, T: Tables>(
+    alloc: Global,
+    run: &mut Run<F, T>,
+    path: &[u8],
+    flags: i64,
+    kept: &LText,
+    marks: FrozenRuns,
+) -> Result<Held, Stop>
+    requires { length (bytes_of kept.now) ≡ length marks }
+    ensures does { Performs F.Files T.Tables (to_hold path.now flags (zip (bytes_of kept.now) marks)) run.old (on_ok marked result) run.new }
+    ensures held { IfOk result IsHeld }
+{
+    let bytes = Bytes::from_slice(alloc, kept.bytes())?;
+    to_hold(alloc, run, path, flags, Held { bytes, marks })
+}
+
+// What is held is written, with its shadow text; how many bytes the filters gave.
+fn write_held<F: Files, T: Tables>(
+    alloc: Global,
+    run: &mut Run<F, T>,
+    path: &[u8],
+    held: &Held,
+    kept: &LText,
+) -> Result<Value, Stop>
+    requires { IsHeld held.now }
+    ensures { Performs F.Files T.Tables (written path.now (marked held.now) (length kept.now)) run.old (on_ok tree_of result) run.new }
+{
+    prove!(held.marks.len() == held.len() as u64);
+    let shadow = encode(alloc, &held.marks)?;
+    run.write_file(path, held.bytes.as_slice(), shadow.as_slice())?;
+    Ok(number(kept.len() as i64))
 }
 
 /// Functions on files, in an evaluation.
@@ -168,6 +205,16 @@ impl<
         self.contents_of(run, path, found)
     }
 
+    // The data as the filters give it.
+    fn passed(&self, run: &mut Run<F, T>, path: &[u8], text: &LText) -> Result<LText, Stop>
+        requires { Nests F.Files T.Tables N.pre N.post self.now.by.now }
+        ensures { Performs F.Files T.Tables (passing.keep_through (means self.now.by.now) File (passing.path_context File path.now) text.now) run.old result run.new }
+    {
+        let context = path_context(self.by.alloc, Channel::File, path)?;
+        let given = text.clone()?;
+        Reader { by: self.by }.keep_through(run, Channel::File, &context, given)
+    }
+
     // The data passes the filters, its policies are frozen, and it is written.
     fn put_data(
         &self,
@@ -179,16 +226,10 @@ impl<
         requires { Nests F.Files T.Tables N.pre N.post self.now.by.now }
         ensures { Performs F.Files T.Tables (put_data (means self.now.by.now) path.now text.now flags) run.old (on_ok tree_of result) run.new }
     {
-        let context = path_context(self.by.alloc, Channel::File, path)?;
-        let given = text.clone()?;
-        let kept = Reader { by: self.by }.keep_through(run, Channel::File, &context, given)?;
+        let kept = self.passed(run, path, text)?;
         let marks = freeze_text(self.by.alloc, &run.machine, &kept)?;
-        let bytes = Bytes::from_slice(self.by.alloc, kept.bytes())?;
-        let held = to_hold(self.by.alloc, run, path, flags, Held { bytes, marks })?;
-        prove!(held.marks.len() == held.len() as u64);
-        let shadow = encode(self.by.alloc, &held.marks)?;
-        run.write_file(path, held.bytes.as_slice(), shadow.as_slice())?;
-        Ok(number(kept.len() as i64))
+        let held = hold(self.by.alloc, run, path, flags, &kept, marks)?;
+        write_held(self.by.alloc, run, path, &held, &kept)
     }
 
     /// `file_put_contents`: sets the bytes of a file, or with FILE_APPEND puts them behind those that it has; how many bytes were given.

@@ -1,5 +1,6 @@
 -- Refusals, and what a text is read as.
-use Rattle.std.proofs.Common.{◌≡◌, ℕ, ◌+◌, Bool, true, false, cond, List, length, nat_lt, Result, Ok, Err, ◌⊎◌, inl, inr, refl, sym, ◌∙◌}
+use Rattle.std.proofs.Common.{◌≡◌, ℕ, ◌+◌, Bool, true, false, cond, List, length, nat_lt, Result, Ok, Err, ◌⊎◌, inl, inr, IsErrAnd, refl, sym, ◌∙◌}
+use Rattle.std.proofs.lemmas.Result.{err_from_is_err_and}
 use Rattle.resin_eval_writes.specs.Under.heap.declared.prelude.PreludeClass.TheVariants.{SqlException}
 use Rattle.resin_eval_writes.specs.Under.lstr.Texts.{Text as LabelledText}
 use Rattle.resin_eval_writes.specs.Under.machine.Objects.{throw_new, last_number}
@@ -14,6 +15,7 @@ use Rattle.resin_eval_writes.specs.Under.meaning_forms.Runs.{Runs, on_ok}
 use Rattle.resin_eval_writes.specs.Under.meaning_tables.Under.joint.declared.tree.MoreStmt.{MoreStmt}
 use Rattle.resin_eval_writes.specs.Under.meaning_tables.Under.sql.declared.fault.SqlFault.{SqlFault}
 use Rattle.resin_eval_writes.specs.Under.meaning_tables.Under.sql.declared.fault.SqlFault.TheVariants as fault
+use Rattle.resin_eval_writes.specs.Under.value.Trees.{Tree}
 use Rattle.resin_eval_writes.proofs.meaning_lemmas.Composition.{does_ended, does_loosely, does_unbegun, none_here}
 use Rattle.resin_eval_writes.proofs.step_parts_lemmas.Steps.{does_lost_act, on_end, seen_step}
 
@@ -36,8 +38,11 @@ pub read_bad : (x y : Result MoreStmt SqlFault) (at : ℕ) → (x ≡ y) ⊎ (x 
 read_bad x y at (inl e) is = sym e ∙ is
 read_bad x y at (inr e) is = absurd (cc)
 
+lost : (ev : Evals) (t : LabelledText) (y : Result MoreStmt SqlFault) {w : World} → Does (run_read ev t y) w (Err Memory) w
+lost ev t (Ok s) = does_unbegun _ _
+lost ev t (Err (fault.Bad place)) = does_lost_act _ (Err Memory) refl
+lost ev t (Err fault.Memory) {w = w} = does_ended (Err Memory) w (none_here w)
+
 -- want of memory before a statement is run
-pub read_lost : (ev : Evals) (t : LabelledText) (y : Result MoreStmt SqlFault) {w : World} → Does (run_read ev t y) w (Err Memory) w
-read_lost ev t (Ok s) = does_unbegun _ _
-read_lost ev t (Err (fault.Bad place)) = does_lost_act _ (Err Memory) refl
-read_lost ev t (Err fault.Memory) {w = w} = does_ended (Err Memory) w (none_here w)
+pub read_lost : {C : Type 0} (ev : Evals) (t : LabelledText) (y : Result MoreStmt SqlFault) (g : C → Tree) {w : World} (r : Result C Stop) → IsErrAnd r (λ e. e ≡ Memory) → Does (run_read ev t y) w (on_ok g r) w
+read_lost ev t y g r h = let e = err_from_is_err_and r h in rw (e.1, e.2) (lost ev t y)

@@ -21,12 +21,12 @@ use resin_eval_writes::under::journal::Channel;
 use resin_eval_writes::under::label::PSet;
 use resin_eval_writes::under::lstr::{LONGEST, LText};
 use resin_eval_writes::under::machine::{Machine, Stop};
+use resin_eval_writes::under::meaning_tables::under::sql_more::is_null;
 use resin_eval_writes::under::scalar::ScriptFault;
 use resin_eval_writes::under::step_parts::reads::plain;
 use resin_eval_writes::under::store::policies_of;
 use resin_eval_writes::under::value::Value;
 use resin_shadow::FrozenRuns;
-use resin_eval_writes::under::meaning_tables::under::sql_more::is_null;
 use resin_step_keeping::thawing::thaw_entry;
 use std::alloc::{AllocError, Global};
 

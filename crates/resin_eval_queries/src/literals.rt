@@ -16,8 +16,8 @@ use resin_eval_writes::under::eval_nested::run::Run;
 use resin_eval_writes::under::label::PSet;
 use resin_eval_writes::under::lstr::LText;
 use resin_eval_writes::under::machine::{Machine, Stop};
-use resin_shadow::encode;
 use resin_eval_writes::under::meaning_tables::under::sql::{Literal, Span, literal_text};
+use resin_shadow::encode;
 use resin_step_keeping::freezing::freeze_text;
 use std::alloc::{AllocError, Global};
 
@@ -117,12 +117,7 @@ impl<
 }
 
 // A text literal with the sets of its bytes.
-fn text_literal(
-    alloc: Global,
-    m: &Machine,
-    text: &LText,
-    span: Span,
-) -> Result<StoredCell, Stop>
+fn text_literal(alloc: Global, m: &Machine, text: &LText, span: Span) -> Result<StoredCell, Stop>
     ensures { (ev : Evals) → Runs (kept_literal ev text.now (Text span)) m.now result m.now }
 {
     let meant = literal_text(alloc, text, Literal::Text(span))?;

@@ -27,9 +27,6 @@ use resin_eval_writes::under::heap::PreludeClass;
 use resin_eval_writes::under::journal::Channel;
 use resin_eval_writes::under::lstr::LText;
 use resin_eval_writes::under::machine::{Machine, Stop};
-use resin_eval_writes::under::meaning_tables::{carry_out, carry_out_join, carry_out_total};
-use resin_eval_writes::under::step_parts::reads::number;
-use resin_eval_writes::under::value::Value;
 use resin_eval_writes::under::meaning_tables::under::joint::more_literals;
 use resin_eval_writes::under::meaning_tables::under::plan::{SqlAnswer, SqlResult};
 use resin_eval_writes::under::meaning_tables::under::sql::{
@@ -38,6 +35,9 @@ use resin_eval_writes::under::meaning_tables::under::sql::{
 use resin_eval_writes::under::meaning_tables::under::sql_more::{
     JoinStmt, MoreAnswer, MoreStmt, TotalItem, TotalStmt, read_more,
 };
+use resin_eval_writes::under::meaning_tables::{carry_out, carry_out_join, carry_out_total};
+use resin_eval_writes::under::step_parts::reads::number;
+use resin_eval_writes::under::value::Value;
 use std::alloc::{AllocError, Global};
 
 /// The largest integer.
@@ -157,7 +157,14 @@ impl<
         ensures { Performs F.Files T.Tables (carried_out (plan statement.now cells.now)) run.old result run.new }
     {
         let tables = &mut run.tables;
-        carry_out(self.by.alloc, &run.machine, statement, cells, tables, &mut run.calls)
+        carry_out(
+            self.by.alloc,
+            &run.machine,
+            statement,
+            cells,
+            tables,
+            &mut run.calls,
+        )
     }
 
     // A join is.
@@ -170,7 +177,14 @@ impl<
         ensures { Performs F.Files T.Tables (carried_with_ticks (join_plan statement.now cells.now)) run.old result run.new }
     {
         let tables = &mut run.tables;
-        carry_out_join(self.by.alloc, &run.machine, statement, cells, tables, &mut run.calls)
+        carry_out_join(
+            self.by.alloc,
+            &run.machine,
+            statement,
+            cells,
+            tables,
+            &mut run.calls,
+        )
     }
 
     // A total is.
@@ -183,7 +197,14 @@ impl<
         ensures { Performs F.Files T.Tables (carried_with_ticks (total_plan statement.now cells.now)) run.old result run.new }
     {
         let tables = &mut run.tables;
-        carry_out_total(self.by.alloc, &run.machine, statement, cells, tables, &mut run.calls)
+        carry_out_total(
+            self.by.alloc,
+            &run.machine,
+            statement,
+            cells,
+            tables,
+            &mut run.calls,
+        )
     }
 
     // A statement whose literals are kept so.

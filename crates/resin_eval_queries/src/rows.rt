@@ -76,12 +76,7 @@ impl<
     }
 
     // The cells of a row, one after the other.
-    fn row(
-        &self,
-        run: &mut Run<F, T>,
-        columns: &[Bytes],
-        cells: &[StoredCell],
-    ) -> Result<Arr, Stop>
+    fn row(&self, run: &mut Run<F, T>, columns: &[Bytes], cells: &[StoredCell]) -> Result<Arr, Stop>
         requires { Nests F.Files T.Tables N.pre N.post self.now.by.now }
         ensures { Performs F.Files T.Tables (row_on (means self.now.by.now) columns.now cells.now empty) run.old result run.new }
     {
@@ -111,12 +106,7 @@ impl<
     }
 
     // The same as an array.
-    fn list(
-        &self,
-        run: &mut Run<F, T>,
-        columns: &[Bytes],
-        rows: &[Stored],
-    ) -> Result<Arr, Stop>
+    fn list(&self, run: &mut Run<F, T>, columns: &[Bytes], rows: &[Stored]) -> Result<Arr, Stop>
         requires { Nests F.Files T.Tables N.pre N.post self.now.by.now }
         ensures { Performs F.Files T.Tables (rows_on (means self.now.by.now) columns.now rows.now empty) run.old result run.new }
     {

@@ -2,6 +2,7 @@
 ghost use Rattle.resin_eval_writes.specs.Under.base.declared.stored.StoredCell.{StoredCell as AnyStored};
 ghost use Rattle.resin_eval_writes.specs.Under.eval_nested.Nested.{Nests, means};
 ghost use Rattle.resin_eval_writes.specs.Under.eval_nested.Running.{Performs};
+ghost use Rattle.resin_eval_queries.specs.Items.{item_by, item_of};
 ghost use Rattle.resin_eval_writes.specs.Under.meaning_forms.Queries.{totalled};
 ghost use Rattle.resin_eval_writes.specs.Under.meaning_forms.Runs.{Runs, on_ok};
 ghost use Rattle.resin_eval_writes.specs.Under.meaning_forms.Totals.{item_or_fault, item_total, items_on, total_value, with_item};
@@ -21,10 +22,13 @@ use resin_eval_writes::under::eval_nested::run::Run;
 use resin_eval_writes::under::label::PSet;
 use resin_eval_writes::under::lstr::LText;
 use resin_eval_writes::under::machine::{Machine, Stop};
+use resin_eval_writes::under::meaning_tables::under::rows::copied_or_null;
+use resin_eval_writes::under::meaning_tables::under::sql_more::{
+    MoreAnswer, TotalFault, TotalItem, first_items, item_name, item_value,
+};
 use resin_eval_writes::under::scalar::ScriptFault;
 use resin_eval_writes::under::value::{Arr, Value};
-use resin_eval_writes::under::meaning_tables::under::rows::copied_or_null;
-use resin_eval_writes::under::meaning_tables::under::sql_more::{MoreAnswer, TotalFault, TotalItem, first_items, item_name, item_value};
+use resin_shadow::FrozenRuns;
 use resin_step_keeping::thawing::thaw_sets;
 use std::alloc::{AllocError, Global};
 
@@ -106,6 +110,43 @@ impl<
         }
     }
 
+    // An item over the sets that its cells carry.
+    fn of_sets(
+        &self,
+        run: &mut Run<F, T>,
+        item: &TotalItem,
+        name: &[u8],
+        chosen: u64,
+        cells: &[StoredCell],
+        sets: &[PSet],
+    ) -> Result<Value, Stop>
+        requires nests { Nests F.Files T.Tables N.pre N.post self.now.by.now }
+        requires named { name.now ≡ item_name item.now }
+        ensures { Performs F.Files T.Tables (item_of (means self.now.by.now) item.now chosen cells.now sets.now) run.old (on_ok tree_of result) run.new }
+    {
+        let value = value_of(self.by.alloc, &run.machine, item, chosen, cells)?;
+        let set = Merger { by: self.by }.fold_sets(run, sets)?;
+        self.labelled(run, name, set, value)
+    }
+
+    // The same where the policy texts of the cells are known.
+    fn of_marks(
+        &self,
+        run: &mut Run<F, T>,
+        item: &TotalItem,
+        name: &[u8],
+        chosen: u64,
+        cells: &[StoredCell],
+        marks: &FrozenRuns,
+    ) -> Result<Value, Stop>
+        requires nests { Nests F.Files T.Tables N.pre N.post self.now.by.now }
+        requires named { name.now ≡ item_name item.now }
+        ensures { Performs F.Files T.Tables (item_by (means self.now.by.now) item.now chosen cells.now marks.now) run.old (on_ok tree_of result) run.new }
+    {
+        let sets = thaw_sets(self.by.alloc, &mut run.machine, marks)?;
+        self.of_sets(run, item, name, chosen, cells, sets.as_slice())
+    }
+
     // An item over its cells.
     fn item(
         &self,
@@ -120,10 +161,7 @@ impl<
         ensures { Performs F.Files T.Tables (item_total (means self.now.by.now) item.now chosen cells.now) run.old (on_ok tree_of result) run.new }
     {
         let marks = marks_of_cells(self.by.alloc, &run.machine, cells)?;
-        let sets = thaw_sets(self.by.alloc, &mut run.machine, &marks)?;
-        let value = value_of(self.by.alloc, &run.machine, item, chosen, cells)?;
-        let set = Merger { by: self.by }.fold_sets(run, sets.as_slice())?;
-        self.labelled(run, name, set, value)
+        self.of_marks(run, item, name, chosen, cells, &marks)
     }
 
     // An item is put into a row under its name.

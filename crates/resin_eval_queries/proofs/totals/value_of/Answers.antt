@@ -1,4 +1,4 @@
-use Rattle.std.proofs.Common.{ap, arith, List, refl, sym, ◌∙◌}
+use Rattle.std.proofs.Common.{ap, arith, Err, List, refl, sym, ◌∙◌}
 use Rattle.resin_eval_writes.specs.Under.base.declared.cell.Cell.{Cell}
 use Rattle.resin_eval_writes.specs.Under.meaning_forms.Totals.{item_or_fault}
 use Rattle.resin_eval_writes.specs.Under.meaning_tables.Under.sql_more.Values.{item_value}
@@ -19,15 +19,15 @@ item_value-requires c = omega (arith, c.if-chosen-gt-MOST.false)
 
 pub returns-in-Ok : goal.returns-in-Ok
 returns-in-Ok c =
-    λ f t k. does_is (ap (λ (cs : List Cell). item_or_fault (item_value c.args.item.now c.args.chosen cs)) (sym (c.as_slice.ensures ∙ c.in_ok-values.ensures)) ∙ item_is _ _ _ c.item_value.ensures c.in-Ok.is) (does_give _ _)
+    λ f t k. does_is (ap (λ (cs : List Cell). item_or_fault (item_value c.args.item.now c.args.chosen cs)) (sym (c.as_slice.ensures.value ∙ c.in_ok-values.ensures)) ∙ item_is _ _ _ c.in-Ok.ensures refl) (does_give _ _)
 
-pub returns-in-IntegerOverflow : goal.returns-in-IntegerOverflow
-returns-in-IntegerOverflow c =
-    λ f t k. does_is (ap (λ (cs : List Cell). item_or_fault (item_value c.args.item.now c.args.chosen cs)) (sym (c.as_slice.ensures ∙ c.in_ok-values.ensures)) ∙ item_overflows _ _ c.item_value.ensures c.in-IntegerOverflow.is) (does_faulted _ _ c.fault.ensures)
+pub returns-in-Err-IntegerOverflow : goal.returns-in-Err-IntegerOverflow
+returns-in-Err-IntegerOverflow c =
+    λ f t k. does_is (ap (λ (cs : List Cell). item_or_fault (item_value c.args.item.now c.args.chosen cs)) (sym (c.as_slice.ensures.value ∙ c.in_ok-values.ensures)) ∙ item_overflows _ _ c.in-Err-IntegerOverflow.ensures (ap Err c.in-Err-IntegerOverflow.field-0-is)) (does_faulted _ _ c.fault.ensures)
 
-pub returns-in-TextTooLong : goal.returns-in-TextTooLong
-returns-in-TextTooLong c =
-    λ f t k. does_is (ap (λ (cs : List Cell). item_or_fault (item_value c.args.item.now c.args.chosen cs)) (sym (c.as_slice.ensures ∙ c.in_ok-values.ensures)) ∙ item_too_long _ _ c.item_value.ensures c.in-TextTooLong.is) (does_faulted _ _ c.fault-in-TextTooLong.ensures)
+pub returns-in-Err-TextTooLong : goal.returns-in-Err-TextTooLong
+returns-in-Err-TextTooLong c =
+    λ f t k. does_is (ap (λ (cs : List Cell). item_or_fault (item_value c.args.item.now c.args.chosen cs)) (sym (c.as_slice.ensures.value ∙ c.in_ok-values.ensures)) ∙ item_too_long _ _ c.in-Err-TextTooLong.ensures (ap Err c.in-Err-TextTooLong.field-0-is)) (does_faulted _ _ c.fault-in-Err-TextTooLong.ensures)
 
-pub returns-in-Memory : goal.returns-in-Memory
-returns-in-Memory c = λ f t k. item_lost _ _ refl
+pub returns : goal.returns
+returns c = λ f t k. item_lost _ _ refl

@@ -1,4 +1,10 @@
-use Rattle.resin_eval_writes.proofs.meaning_lemmas.Composition.{does_exit, does_give, does_lost_exit, does_next, does_unbegun_exit}
+use mir.Val.{SFits}
+use Rattle.std.proofs.Common.{ap, rules, w64, ℤ}
+use Rattle.std.proofs.lemmas.Int.{to_z-of_z}
+use Rattle.resin_eval_writes.specs.Under.base.declared.cell.Cell.TheVariants as cell
+use Rattle.resin_eval_writes.specs.Under.store.Cells.{stored}
+use Rattle.resin_eval_writes.proofs.eval_nested_lemmas.Arms.{does_given}
+use Rattle.resin_eval_writes.proofs.meaning_lemmas.Composition.{does_exit, does_lost_exit, does_next, does_unbegun_exit}
 use Rattle.resin_eval_queries.proofs.literals.LiteralKeeper.integer.Goals as goal
 
 pub returns-in_err-bytes : goal.returns-in_err-bytes
@@ -19,4 +25,6 @@ returns-in_err-shadow g c =
 
 pub returns : goal.returns
 returns g c =
-    does_next _ _ (rw c.in_ok-bytes.ensures at c.in_ok-set.ensures) (does_next _ _ ((rw c.in_ok-byte.ensures at c.in_ok-shadow.ensures) _ _ _) (does_give _ _))
+    let fits : SFits w64 c.args.value = search rules in
+    does_next _ _ (rw c.in_ok-bytes.ensures at c.in_ok-set.ensures)
+    (does_next _ _ ((rw c.in_ok-byte.ensures at c.in_ok-shadow.ensures) _ _ _) (does_given _ _ (ap (λ (n : ℤ). stored (cell.Int n) (cell.Text c.in_ok-shadow.shadow)) (to_z-of_z w64 c.args.value fits))))

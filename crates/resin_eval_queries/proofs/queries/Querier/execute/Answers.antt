@@ -5,6 +5,7 @@ use Rattle.resin_eval_writes.specs.Under.meaning_forms.Queries.{executed}
 use Rattle.resin_eval_writes.proofs.eval_nested_lemmas.Exits.{does_is, does_seen_exit}
 use Rattle.resin_eval_writes.proofs.meaning_lemmas.Composition.{does_next}
 use Rattle.resin_eval_writes.specs.Under.meaning_tables.Under.joint.declared.tree.MoreStmt.{MoreStmt}
+use Rattle.resin_eval_queries.proofs.RowLemmas.{same_total}
 use Rattle.resin_eval_queries.proofs.queries.Querier.execute.Goals as goal
 
 pub returns-in_err-end : goal.returns-in_err-end
@@ -23,4 +24,4 @@ pub returns-in_err-end-in-Total : goal.returns-in_err-end-in-Total
 returns-in_err-end-in-Total g c = does_is (ap (λ (x : MoreStmt). executed (evals c.args.self.now.by.now.room) x c.args.cells.now) c.in-Total.is) (does_seen_exit _ _ _ _ c.from_residual-in_err-end-in-Total.ensures.1 c.in_err-end-in-Total.ensures)
 
 pub returns-in-Total : goal.returns-in-Total
-returns-in-Total g c = does_is (ap (λ (x : MoreStmt). executed (evals c.args.self.now.by.now.room) x c.args.cells.now) c.in-Total.is) (does_next _ _ c.in_ok-end-in-Total.ensures (rw c.as_slice.ensures at c.totalled.ensures))
+returns-in-Total g c = does_is (ap (λ (x : MoreStmt). executed (evals c.args.self.now.by.now.room) x c.args.cells.now) c.in-Total.is) (does_next _ _ c.in_ok-end-in-Total.ensures (does_is (same_total (evals c.args.self.now.by.now.room) _ c.as_slice.ensures.value) c.totalled.ensures))

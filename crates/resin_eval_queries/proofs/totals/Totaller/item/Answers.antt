@@ -5,17 +5,5 @@ use Rattle.resin_eval_queries.proofs.totals.Totaller.item.Goals as goal
 pub returns-in_err-marks : goal.returns-in_err-marks
 returns-in_err-marks g c = does_seen_exit _ _ _ _ c.from_residual.ensures.1 (c.in_err-marks.ensures _ _ _)
 
-pub returns-in_err-sets : goal.returns-in_err-sets
-returns-in_err-sets g c = does_next _ _ (c.in_ok-marks.ensures _ _ _) (does_seen_exit _ _ _ _ c.from_residual-in_err-sets.ensures.1 (c.in_err-sets.ensures _ _ _))
-
-pub returns-in_err-value : goal.returns-in_err-value
-returns-in_err-value g c =
-    does_next _ _ (c.in_ok-marks.ensures _ _ _) (does_next _ _ (c.in_ok-sets.ensures _ _ _) (does_seen_exit _ _ _ _ c.from_residual-in_err-value.ensures.1 (c.in_err-value.ensures _ _ _)))
-
-pub returns-in_err-set : goal.returns-in_err-set
-returns-in_err-set g c =
-    does_next _ _ (c.in_ok-marks.ensures _ _ _) (does_next _ _ (c.in_ok-sets.ensures _ _ _) (does_next _ _ (c.in_ok-value.ensures _ _ _) (does_seen_exit _ _ _ _ c.from_residual-in_err-set.ensures.1 (rw c.as_slice.ensures at c.in_err-set.ensures))))
-
 pub returns : goal.returns
-returns g c =
-    does_next _ _ (c.in_ok-marks.ensures _ _ _) (does_next _ _ (c.in_ok-sets.ensures _ _ _) (does_next _ _ (c.in_ok-value.ensures _ _ _) (does_next _ _ (rw c.as_slice.ensures at c.in_ok-set.ensures) (rw c.requires.named at c.labelled.ensures))))
+returns g c = does_next _ _ (c.in_ok-marks.ensures _ _ _) c.of_marks.ensures
