@@ -19,7 +19,7 @@ pub loop-i-preserved : goal.loop-i-preserved
 loop-i-preserved g c =
     record {
       goes_on = λ r w e. c.loop-i.invariant.goes_on r w
-        (items_next (evals c.args.self.now.by.now.room) c.args.chosen c.args.items.now c.args.rows.now c.loop-i.i c.index-items-i.result c.index-rows-i.result c.as_slice.result.now c.loop-i.row c.in_ok-row-2.row (omega (arith, c.least-i-end.ensures, c.loop-i-test.true)) (omega (arith, c.least-i-end.ensures, c.loop-i-test.true)) c.index-items-i.is c.index-rows-i.is c.as_slice.ensures c.in_ok-row-2.ensures e)
+          (items_next (evals c.args.self.now.by.now.room) c.args.chosen c.args.items.now c.args.rows.now c.loop-i.i c.index-items-i.result c.index-rows-i.result c.as_slice.result.now c.loop-i.row c.in_ok-row-2.row (omega (arith, c.least-i-end.ensures, c.loop-i-test.true)) (omega (arith, c.least-i-end.ensures, c.loop-i-test.true)) c.index-items-i.is c.index-rows-i.is c.as_slice.ensures c.in_ok-row-2.ensures e);
     }
 
 pub returns : goal.returns
