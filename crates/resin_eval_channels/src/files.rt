@@ -84,9 +84,9 @@ fn joined_bytes(alloc: Global, old: &[u8], new: &[u8]) -> Result<Bytes, AllocErr
 }
 
 // New bytes behind those of an entry. A text may not be longer than the longest, before or after.
-fn behind_held(alloc: Global, m: &Machine, entry: &Entry, new: &Held) -> Result<Held, Stop>
-    requires { IsHeld new.now }
-    ensures does { Runs (behind_held (marked new.now) (lift entry.now)) m.now (on_ok marked result) m.now }
+fn behind_held(alloc: Global, m: &Machine, entry: &Entry, new: Held) -> Result<Held, Stop>
+    requires { IsHeld new }
+    ensures does { Runs (behind_held (marked new) (lift entry.now)) m.now (on_ok marked result) m.now }
     ensures held { IfOk result IsHeld }
 {
     let len = entry.bytes.as_slice().len();
@@ -120,7 +120,7 @@ fn to_hold<F: Files, T: Tables>(
         return Ok(new);
     }
     match run.read_file(path)? {
-        Some(entry) => behind_held(alloc, &run.machine, &entry, &new),
+        Some(entry) => behind_held(alloc, &run.machine, &entry, new),
         None => Ok(new),
     }
 }

@@ -1,5 +1,5 @@
 -- What the reads of cells begin with, by what is known of a cell.
-use Rattle.std.proofs.Common.{◌≡◌, ℕ, ◌<◌, ◌≤◌, Bool, true, false, cond, List, [], length, map, Option, Some, None, Result, Ok, Err, IsErrAnd, refl, sym, ap, subst, ◌∙◌, arith}
+use Rattle.std.proofs.Common.{◌≡◌, ℕ, ◌<◌, ◌≤◌, Bool, true, false, cond, List, [], ◌∷◌, length, map, Option, Some, None, Result, Ok, Err, IsErrAnd, refl, sym, ap, subst, ◌∙◌, arith}
 use Rattle.std.specs.Prelude.{nat_lt}
 use Rattle.resin_shadow.specs.Marks.{Marks}
 use Rattle.resin_eval_writes.specs.Under.base.declared.cell.Cell.{Cell}
@@ -39,13 +39,13 @@ none_long p q = ap (λ b. cond b p q) (isnt_long 0 (omega arith))
 
 pub thaw_damaged : (v : Cell) → thaw_entry (damaged_entry v) ≡ faulted (damage v)
 thaw_damaged (cell.Text bytes) = picked (nat_lt LONGEST (length bytes))
-thaw_damaged (cell.Int n) = none_long _ _
-thaw_damaged cell.Null = none_long _ _
+thaw_damaged (cell.Int n) = none_long (faulted TextTooLong) (faulted BadShadow)
+thaw_damaged cell.Null = none_long (faulted TextTooLong) (faulted BadShadow)
 
 pub marks_damaged : (v : Cell) → whole_marks (damaged_entry v) ≡ faulted (damage v)
 marks_damaged (cell.Text bytes) = picked (nat_lt LONGEST (length bytes))
-marks_damaged (cell.Int n) = none_long _ _
-marks_damaged cell.Null = none_long _ _
+marks_damaged (cell.Int n) = none_long (faulted TextTooLong) (faulted BadShadow)
+marks_damaged cell.Null = none_long (faulted TextTooLong) (faulted BadShadow)
 
 -- ---- want of memory before the first step
 
@@ -53,7 +53,7 @@ either : {A : Type 0} (b : Bool) (p q : Prog A) {u w : World} {r : Result A Stop
 either true p q d e = d
 either false p q d e = e
 
-thaw_short_lost : {A : Type 0} (l : LabelledEntry) {w : World} (r : Result _ Stop) → IsErrAnd r (λ e. e ≡ Memory) → Does (thaw_short l) w r w
+thaw_short_lost : (l : LabelledEntry) {w : World} (r : Result _ Stop) → IsErrAnd r (λ e. e ≡ Memory) → Does (thaw_short l) w r w
 thaw_short_lost (Good d version) r h = does_unbegun_exit _ _ r h
 thaw_short_lost (Bad bytes shadow) r h = does_lost_act (faults BadShadow) r h
 

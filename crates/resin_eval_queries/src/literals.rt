@@ -108,8 +108,8 @@ impl<
         ensures { Performs F.Files T.Tables (kept_literals (means self.now.by.now) text.now literals.now []) run.old result run.new }
     {
         let mut cells = Stored::new(self.by.alloc);
-        for literal in literals {
-            let cell = self.literal(run, text, *literal)?;
+        for next in literals {
+            let cell = self.literal(run, text, *next)?;
             put(&mut cells, cell)?;
         }
         Ok(cells)

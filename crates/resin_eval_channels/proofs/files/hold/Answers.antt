@@ -1,6 +1,8 @@
 use mir.Val.{SFits}
 use Rattle.resin_eval_queries.specs.Under.meaning_forms.Files.{to_hold}
 use Rattle.resin_eval_queries.proofs.eval_nested_lemmas.Exits.{does_is}
+use Rattle.resin_eval_queries.specs.Under.lstr.Texts.{bytes_of}
+use Rattle.resin_eval_channels.specs.Held.{marked}
 use Rattle.resin_eval_channels.proofs.Holding.{hold_lost}
 use Rattle.std.proofs.Common.{ap, length, rules, sym, w64, ◌∙◌}
 use Rattle.std.proofs.lemmas.Int.{to_z-of_z}
@@ -9,7 +11,7 @@ use Rattle.resin_eval_channels.proofs.files.hold.Goals as goal
 
 pub returns-in_err-bytes-clause-does : goal.returns-in_err-bytes-clause-does
 returns-in_err-bytes-clause-does g c =
-    hold_lost _ _ _ _ _ c.from_residual.ensures.1
+    hold_lost c.args.path.now c.args.flags (zip (bytes_of c.args.kept.now) c.args.marks) marked _ c.from_residual.ensures.1
 
 pub to_hold-requires : goal.to_hold-requires
 to_hold-requires g c =

@@ -7,11 +7,11 @@ use Rattle.resin_eval_queries.specs.Cells.{IsReadAs}
 use Rattle.resin_eval_queries.proofs.CellLemmas.{thaw_damaged, thaw_lost}
 use Rattle.resin_eval_queries.proofs.cells.thaw_cell.Goals as goal
 
-pub returns-in_err-entry_for : goal.returns-in_err-entry_for
-returns-in_err-entry_for c = λ f t k. thaw_lost _ _ c.from_residual.ensures.1
+pub returns-in_err-entry : goal.returns-in_err-entry
+returns-in_err-entry c = λ f t k. thaw_lost _ _ c.from_residual.ensures.1
 
 pub returns-in-Some : goal.returns-in-Some
-returns-in-Some c = λ f t k. does_is (ap (λ (l : LabelledEntry). thaw_entry l) (rw c.in-Some.is at c.in_ok-entry_for.ensures)) (c.thaw_entry.ensures f t k)
+returns-in-Some c = λ f t k. does_is (ap (λ (l : LabelledEntry). thaw_entry l) (rw c.in-Some.is at c.in_ok-entry.ensures)) (c.thaw_entry.ensures f t k)
 
 pub returns-in-None : goal.returns-in-None
-returns-in-None c = λ f t k. does_is (ap (λ (l : LabelledEntry). thaw_entry l) (rw c.in-None.is at c.in_ok-entry_for.ensures) ∙ thaw_damaged c.args.cell.now.value) (does_faulted _ _ (rw c.damage.ensures at c.fault.ensures))
+returns-in-None c = λ f t k. does_is (ap (λ (l : LabelledEntry). thaw_entry l) (rw c.in-None.is at c.in_ok-entry.ensures) ∙ thaw_damaged c.args.cell.now.value) (does_faulted _ _ (rw c.damage.ensures at c.fault.ensures))

@@ -1,4 +1,4 @@
-use Rattle.std.proofs.Common.{◌≡◌, ⊥, refl, ap, sym, ℤ}
+use Rattle.std.proofs.Common.{◌≡◌, refl, ap, sym, ℤ}
 use Rattle.resin_eval_writes.specs.Under.base.declared.cell.Cell.{Cell}
 use Rattle.resin_eval_writes.specs.Under.base.declared.cell.Cell.TheVariants as cell
 use Rattle.resin_eval_writes.specs.Under.label.Sets.{NumberSet}
@@ -12,14 +12,14 @@ use Rattle.resin_eval_writes.proofs.eval_nested_lemmas.Exits.{does_is, does_seen
 use Rattle.resin_eval_queries.proofs.Values.{read_as_text}
 use Rattle.resin_eval_queries.proofs.cells.CellReader.value.Goals as goal
 
-pub returns-in_err-first_set : goal.returns-in_err-first_set
-returns-in_err-first_set g c =
+pub returns-in_err-first_set-in-Int : goal.returns-in_err-first_set-in-Int
+returns-in_err-first_set-in-Int g c =
     does_is (ap (λ (v : Cell). read_value (evals c.args.self.now.by.now.room) c.args.column.now v c.args.text) c.in-Int.is) (does_seen_none _ _ _ c.from_residual.ensures.1)
 
-pub returns-in-Int : goal.returns-in-Int
-returns-in-Int g c =
-    does_is (ap (λ (v : Cell). read_value (evals c.args.self.now.by.now.room) c.args.column.now v c.args.text) c.in-Int.is) (does_given _ _ (ap (λ (s : NumberSet). integer _ s) c.in_ok-first_set.ensures))
+pub returns-in_ok-first_set-in-Int : goal.returns-in_ok-first_set-in-Int
+returns-in_ok-first_set-in-Int g c =
+    does_is (ap (λ (v : Cell). read_value (evals c.args.self.now.by.now.room) c.args.column.now v c.args.text) c.in-Int.is) (does_given _ _ (ap (λ (s : NumberSet). integer _ s) c.in_ok-first_set-in-Int.ensures))
 
 pub returns-in_default : goal.returns-in_default
 returns-in_default g c =
-    does_is (read_as_text (evals c.args.self.now.by.now.room) c.args.column.now c.args.value.now c.args.text c.in_default.not-Int) c.text.ensures
+    does_is (read_as_text (evals c.args.self.now.by.now.room) c.args.column.now c.args.value.now c.args.text c.in_default.not-Int) c.text-in_default.ensures

@@ -1,22 +1,22 @@
 use Rattle.resin_eval_writes.proofs.meaning_lemmas.Composition.{does_exit, does_give, does_lost_exit, does_next, front, leads_here, nothing_left}
 use Rattle.resin_eval_queries.proofs.literals.LiteralKeeper.literals.Goals as goal
 
-pub loop-literal-init : goal.loop-literal-init
-loop-literal-init g c =
+pub loop-next-init : goal.loop-next-init
+loop-next-init g c =
     rw c.new-cells.ensures (leads_here _ _)
 
 pub returns-in_err-cell : goal.returns-in_err-cell
 returns-in_err-cell g c =
-    c.loop-literal.invariant.goes_on _ _ (rw (front c.args.literals.now c.loop-literal.literal-index c.literal-item.result c.loop-literal-test.true c.literal-item.is) (does_exit _ _ _ c.from_residual.ensures.1 c.in_err-cell.ensures))
+    c.loop-next.invariant.goes_on _ _ (rw (front c.args.literals.now c.loop-next.next-index c.next-item.result c.loop-next-test.true c.next-item.is) (does_exit _ _ _ c.from_residual.ensures.1 c.in_err-cell.ensures))
 
 pub returns-in_err-put : goal.returns-in_err-put
 returns-in_err-put g c =
-    c.loop-literal.invariant.goes_on _ _ (rw (front c.args.literals.now c.loop-literal.literal-index c.literal-item.result c.loop-literal-test.true c.literal-item.is) (does_lost_exit _ _ _ c.from_residual-in_err-put.ensures.1 c.in_ok-cell.ensures))
+    c.loop-next.invariant.goes_on _ _ (rw (front c.args.literals.now c.loop-next.next-index c.next-item.result c.loop-next-test.true c.next-item.is) (does_lost_exit _ _ _ c.from_residual-in_err-put.ensures.1 c.in_ok-cell.ensures))
 
-pub loop-literal-preserved : goal.loop-literal-preserved
-loop-literal-preserved g c =
-    record { goes_on = λ r w e. c.loop-literal.invariant.goes_on r w (rw (front c.args.literals.now c.loop-literal.literal-index c.literal-item.result c.loop-literal-test.true c.literal-item.is) (does_next _ _ c.in_ok-cell.ensures (rw c.in_ok-put.ensures at e))) }
+pub loop-next-preserved : goal.loop-next-preserved
+loop-next-preserved g c =
+    record { goes_on = λ r w e. c.loop-next.invariant.goes_on r w (rw (front c.args.literals.now c.loop-next.next-index c.next-item.result c.loop-next-test.true c.next-item.is) (does_next _ _ c.in_ok-cell.ensures (rw c.in_ok-put.ensures at e))) }
 
 pub returns : goal.returns
 returns g c =
-    c.loop-literal.invariant.goes_on _ _ (rw (nothing_left c.args.literals.now c.loop-literal.literal-index c.loop-literal-test.false) (does_give _ _))
+    c.loop-next.invariant.goes_on _ _ (rw (nothing_left c.args.literals.now c.loop-next.next-index c.loop-next-test.false) (does_give _ _))

@@ -7,11 +7,11 @@ use Rattle.resin_eval_writes.proofs.eval_nested_lemmas.Exits.{does_is, does_seen
 use Rattle.resin_eval_writes.proofs.meaning_lemmas.Composition.{does_loosely, does_act, does_next}
 use Rattle.resin_eval_queries.proofs.queries.Querier.answered.Goals as goal
 
-pub returns-in_err-charge : goal.returns-in_err-charge
-returns-in_err-charge g c = does_is (ap (λ (x : Result SqlAnswer SqlRefusal). answered (evals c.args.self.now.by.now.room) x) c.in-Ok.is) (does_seen_exit _ _ _ _ c.from_residual.ensures.1 (does_act _ _ _ _ c.in_err-charge.ensures.acts))
+pub returns-in_err-charge-in-Ok : goal.returns-in_err-charge-in-Ok
+returns-in_err-charge-in-Ok g c = does_is (ap (λ (x : Result SqlAnswer SqlRefusal). answered (evals c.args.self.now.by.now.room) x) c.in-Ok.is) (does_seen_exit _ _ _ _ c.from_residual.ensures.1 (does_act _ _ _ _ c.in_err-charge-in-Ok.ensures.acts))
 
-pub returns-in-Ok : goal.returns-in-Ok
-returns-in-Ok g c = does_is (ap (λ (x : Result SqlAnswer SqlRefusal). answered (evals c.args.self.now.by.now.room) x) c.in-Ok.is) (does_next _ _ (does_act _ _ _ _ c.in_ok-charge.ensures.acts) c.answer.ensures)
+pub returns-in_ok-charge-in-Ok : goal.returns-in_ok-charge-in-Ok
+returns-in_ok-charge-in-Ok g c = does_is (ap (λ (x : Result SqlAnswer SqlRefusal). answered (evals c.args.self.now.by.now.room) x) c.in-Ok.is) (does_next _ _ (does_act _ _ _ _ c.in_ok-charge-in-Ok.ensures.acts) c.answer.ensures)
 
 pub returns-in-Err : goal.returns-in-Err
 returns-in-Err g c = does_is (ap (λ (x : Result SqlAnswer SqlRefusal). answered (evals c.args.self.now.by.now.room) x) c.in-Err.is) (c.refuse.ensures _ _ _)

@@ -8,11 +8,11 @@ use Rattle.resin_eval_writes.proofs.meaning_lemmas.Composition.{does_loosely, do
 use Rattle.resin_eval_queries.proofs.RowLemmas.{same_rows}
 use Rattle.resin_eval_queries.proofs.queries.Querier.joined.Goals as goal
 
-pub returns-in_err-charge : goal.returns-in_err-charge
-returns-in_err-charge g c = does_is (ap (λ (x : Result MoreAnswer SqlRefusal). more_answered (joined (evals c.args.self.now.by.now.room)) x) c.in-Ok.is) (does_seen_exit _ _ _ _ c.from_residual.ensures.1 (does_act _ _ _ _ c.in_err-charge.ensures.acts))
+pub returns-in_err-charge-in-Ok : goal.returns-in_err-charge-in-Ok
+returns-in_err-charge-in-Ok g c = does_is (ap (λ (x : Result MoreAnswer SqlRefusal). more_answered (joined (evals c.args.self.now.by.now.room)) x) c.in-Ok.is) (does_seen_exit _ _ _ _ c.from_residual.ensures.1 (does_act _ _ _ _ c.in_err-charge-in-Ok.ensures.acts))
 
-pub returns-in-Ok : goal.returns-in-Ok
-returns-in-Ok g c = does_is (ap (λ (x : Result MoreAnswer SqlRefusal). more_answered (joined (evals c.args.self.now.by.now.room)) x) c.in-Ok.is) (does_next _ _ (does_act _ _ _ _ c.in_ok-charge.ensures.acts) (does_is (same_rows (evals c.args.self.now.by.now.room) c.as_slice.ensures.value c.as_slice-rows.ensures.value) c.rows.ensures))
+pub returns-in_ok-charge-in-Ok : goal.returns-in_ok-charge-in-Ok
+returns-in_ok-charge-in-Ok g c = does_is (ap (λ (x : Result MoreAnswer SqlRefusal). more_answered (joined (evals c.args.self.now.by.now.room)) x) c.in-Ok.is) (does_next _ _ (does_act _ _ _ _ c.in_ok-charge-in-Ok.ensures.acts) (does_is (same_rows (evals c.args.self.now.by.now.room) c.as_slice.ensures c.as_slice-rows.ensures) c.rows.ensures))
 
 pub returns-in-Err : goal.returns-in-Err
 returns-in-Err g c = does_is (ap (λ (x : Result MoreAnswer SqlRefusal). more_answered (joined (evals c.args.self.now.by.now.room)) x) c.in-Err.is) (c.refuse.ensures _ _ _)

@@ -13,13 +13,13 @@ pub returns-in-Ok : goal.returns-in-Ok
 returns-in-Ok g c =
     does_is (ap (λ (x : Result MoreStmt SqlFault). run_read (evals c.args.self.now.by.now.room) c.args.text.now x) (read_ok _ _ _ c.in-Ok.ensures.read refl)) c.run_statement.ensures
 
-pub returns-in_err-message : goal.returns-in_err-message
-returns-in_err-message g c =
+pub returns-in_err-message-in-Err-Bad : goal.returns-in_err-message-in-Err-Bad
+returns-in_err-message-in-Err-Bad g c =
     read_lost (evals c.args.self.now.by.now.room) c.args.text.now _ tree_of _ c.from_residual.ensures.1
 
-pub returns-in-Err-Bad : goal.returns-in-Err-Bad
-returns-in-Err-Bad g c =
-    does_is (ap (λ (x : Result MoreStmt SqlFault). run_read (evals c.args.self.now.by.now.room) c.args.text.now x) (read_bad _ _ _ c.in-Err-Bad.ensures.read (ap Err c.in-Err-Bad.field-0-is))) ((rw (c.as_slice.ensures, c.in_ok-message.ensures) at c.throw.ensures) _ _ _)
+pub returns-in_ok-message-in-Err-Bad : goal.returns-in_ok-message-in-Err-Bad
+returns-in_ok-message-in-Err-Bad g c =
+    does_is (ap (λ (x : Result MoreStmt SqlFault). run_read (evals c.args.self.now.by.now.room) c.args.text.now x) (read_bad _ _ _ c.in-Err-Bad.ensures.read (ap Err c.in-Err-Bad.field-0-is))) ((rw (c.as_slice.ensures, c.in_ok-message-in-Err-Bad.ensures) at c.throw.ensures) _ _ _)
 
-pub returns-in-Memory : goal.returns-in-Memory
-returns-in-Memory g c = read_lost (evals c.args.self.now.by.now.room) c.args.text.now _ tree_of (Err Memory) refl
+pub returns-in-Err-Memory : goal.returns-in-Err-Memory
+returns-in-Err-Memory g c = read_lost (evals c.args.self.now.by.now.room) c.args.text.now _ tree_of (Err Memory) refl

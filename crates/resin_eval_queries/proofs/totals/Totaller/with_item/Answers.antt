@@ -8,4 +8,4 @@ pub returns-in_err-v : goal.returns-in_err-v
 returns-in_err-v g c = does_exit _ _ _ c.from_residual-in_err-v.ensures.1 c.in_err-v.ensures
 
 pub returns : goal.returns
-returns g c = does_next _ _ c.in_ok-v.ensures ((rw c.in_ok-name.ensures at c.with_named.ensures) _ _ _)
+returns g c = does_next _ _ c.in_ok-v.ensures ((rw (c.as_slice-2.ensures, c.in_ok-name.ensures) at c.with_named.ensures) _ _ _)
