@@ -34,7 +34,7 @@ pub filtered_texts_blind : {own : Option (List ℕ)} (ev : Evals) (context : Val
 filtered_texts_blind ev context a h = search (blinding, filtered_text_blind, filtered_entries_blind) depth 12
 
 pub filtered_input_blind : {own : Option (List ℕ)} (ev : Evals) (name : List ℕ) (key : Key) (t : Tree) → BlindEvals own ev → IsBlind {A = Tree} own (filtered_input ev name key t)
-filtered_input_blind ev name key (array r l h) h = search (blinding, filtered_texts_blind) depth 12
+filtered_input_blind ev name key (array r l height) h = search (blinding, filtered_texts_blind) depth 12
 filtered_input_blind ev name key t h = search (blinding, filtered_text_blind) depth 12
 
 pub filtered_array_blind : {own : Option (List ℕ)} (ev : Evals) (name : List ℕ) (a : Array) → BlindEvals own ev → IsBlind {A = Array} own (filtered_array ev name a)
