@@ -1,5 +1,7 @@
 -- One request is blind to the sessions of others.
-use Rattle.std.proofs.Common.{◌≡◌, ℕ, zero, suc, ◌==◌, Bool, true, false, cond, List, [], ◌∷◌, length, Option, Some, None, Result, Ok, Err, refl, sym, ap, ◌∙◌}
+use Rattle.std.specs.Prelude.{◌&&◌, not}
+use Rattle.std.proofs.Common.{◌≡◌, ℕ, zero, suc, ◌==◌, Bool, true, false, List, [], ◌∷◌, length, Option, Some, None, Result, Ok, Err, refl, sym, ap, ◌∙◌}
+use Rattle.resin_http.specs.Head.{same_bytes}
 use Rattle.resin_inputs.specs.declared.arrays.InputArrays.{InputArrays}
 use Rattle.resin_inputs.specs.Under.bytes.Paths.{is_lawful_path}
 use Rattle.resin_inputs.specs.Under.lstr.Texts.{Text as LabelledText, bytes_of}
@@ -42,7 +44,7 @@ leave_joined_blind ts = search (blinding, write_page_blind) depth 12
 
 close_more_blind : {own : Option (List ℕ)} (n : ℕ) (ts : List LabelledText) → IsBlind own (close_more n ts)
 close_more_blind zero ts = search blinding depth 12
-close_more_blind (suc n) ts = let ih = λ (us : List LabelledText). close_more_blind n us in search (blinding, ih) depth 12
+close_more_blind {own = own} (suc n) ts = let ih = λ (us : List LabelledText). close_more_blind {own = own} n us in search (blinding, ih) depth 12
 
 end_open_blind : {own : Option (List ℕ)} (n : ℕ) → IsBlind own (end_open n)
 end_open_blind n = search (blinding, close_more_blind, leave_joined_blind) depth 12
@@ -108,12 +110,15 @@ serve_found_blind path inputs (Some e) =
     blind_bind _ _ run_boot_blind (λ u. blind_bind _ _ (put_inputs_blind inputs) (λ v.
     blind_bind _ _ (in_session_blind (session_of inputs) _ (serve_and_end_blind path e)) (λ w. blind_ended (Ok Answered))))
 
-first : (a b : Bool) → cond a b false ≡ true → a ≡ true
+first : (a b : Bool) → a && b ≡ true → a ≡ true
 first true b h = refl
 first false b h = h
+
+open_lawful : (path : List ℕ) → is_open path ≡ true → is_lawful_path path ≡ true
+open_lawful path h = first (is_lawful_path path) (not (same_bytes path boot_path)) h
 
 pub request_blind : (path : List ℕ) (inputs : InputArrays) → IsBlind (session_of inputs) (request_program path inputs)
 request_blind path inputs =
     blind_where (is_open path) _ _
-    (λ h. blind_bind _ _ (blind_read path (lawful_seen _ path (first (is_lawful_path path) _ h))) (serve_found_blind path inputs))
+    (λ h. blind_bind _ _ (blind_read path (lawful_seen _ path (open_lawful path h))) (serve_found_blind path inputs))
     (blind_ended (Ok Missing))
