@@ -78,18 +78,18 @@ impl<
         &self,
         run: &mut Run<F, T>,
         text: &LText,
-        literal: Literal,
+        literal: &Literal,
     ) -> Result<StoredCell, Stop>
         requires { Nests F.Files T.Tables N.pre N.post self.now.by.now }
-        ensures { Performs F.Files T.Tables (kept_literal (means self.now.by.now) text.now literal) run.old result run.new }
+        ensures { Performs F.Files T.Tables (kept_literal (means self.now.by.now) text.now literal.now) run.old result run.new }
     {
         match literal {
             Literal::Null => Ok(StoredCell {
                 value: Cell::Null,
                 shadow: Cell::Text(Bytes::new(self.by.alloc)),
             }),
-            Literal::Integer(value, span) => self.integer(run, text, value, span),
-            Literal::Text(span) => text_literal(self.by.alloc, &run.machine, text, span),
+            Literal::Integer(value, span) => self.integer(run, text, *value, *span),
+            Literal::Text(span) => text_literal(self.by.alloc, &run.machine, text, *span),
         }
     }
 
@@ -109,7 +109,7 @@ impl<
     {
         let mut cells = Stored::new(self.by.alloc);
         for next in literals {
-            let cell = self.literal(run, text, *next)?;
+            let cell = self.literal(run, text, next)?;
             put(&mut cells, cell)?;
         }
         Ok(cells)
