@@ -7,5 +7,3 @@ pub use Rattle.resin_eval_channels.proofs.meaning_lemmas
 pub use Rattle.resin_eval_channels.proofs.step_parts_lemmas
 pub use Rattle.resin_eval_channels.proofs.target_lemmas
 pub use Rattle.resin_eval_channels.proofs.Holding as holding_lemmas
-pub use Rattle.resin_eval_channels.proofs.blindness_lemmas
-pub use Rattle.resin_eval_channels.proofs.blind_form_lemmas

@@ -6,5 +6,3 @@ pub use Rattle.resin_eval_queries.proofs.eval_nested_lemmas
 pub use Rattle.resin_eval_queries.proofs.meaning_lemmas
 pub use Rattle.resin_eval_queries.proofs.step_parts_lemmas
 pub use Rattle.resin_eval_queries.proofs.target_lemmas
-pub use Rattle.resin_eval_queries.proofs.blindness_lemmas
-pub use Rattle.resin_eval_queries.proofs.blind_form_lemmas

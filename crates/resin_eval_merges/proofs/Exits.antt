@@ -1,14 +1,14 @@
 -- Exits of functions whose end is seen otherwise, and want of memory before a program begins.
 use Rattle.std.proofs.Common.{◌≡◌, List, [], ◌∷◌, Result, Err, inl, refl, IsErrAnd}
 use Rattle.std.proofs.lemmas.Result.{err_from_is_err_and}
-use Rattle.resin_step_functions.specs.Under.label.Sets.{NumberSet, empty as no_labels}
-use Rattle.resin_step_functions.specs.Under.machine.declared.stop.Stop.{Stop}
-use Rattle.resin_step_functions.specs.Under.machine.declared.stop.Stop.TheVariants.{Memory}
-use Rattle.resin_step_functions.specs.Under.meaning.Programs.{give}
-use Rattle.resin_step_functions.specs.Under.meaning.Runs.{World, Does}
-use Rattle.resin_step_functions.proofs.meaning_lemmas.Composition.{does_unbegun, does_nothing}
-use Rattle.resin_step_functions.specs.Under.meaning_forms.Parts.{Evals}
-use Rattle.resin_step_functions.specs.Under.meaning_forms.Merges.{fold_sets}
+use Rattle.resin_eval_nested.specs.Under.label.Sets.{NumberSet, empty as no_labels}
+use Rattle.resin_eval_nested.specs.Under.machine.declared.stop.Stop.{Stop}
+use Rattle.resin_eval_nested.specs.Under.machine.declared.stop.Stop.TheVariants.{Memory}
+use Rattle.resin_eval_nested.specs.Under.meaning.Programs.{give}
+use Rattle.resin_eval_nested.specs.Under.meaning.Runs.{World, Does}
+use Rattle.resin_eval_nested.proofs.meaning_lemmas.Composition.{does_unbegun, does_nothing}
+use Rattle.resin_eval_nested.specs.Under.meaning_forms.Parts.{Evals}
+use Rattle.resin_eval_nested.specs.Under.meaning_forms.Merges.{fold_sets}
 
 -- ---- want of memory before a program begins
 

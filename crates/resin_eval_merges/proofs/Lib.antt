@@ -3,5 +3,5 @@ pub mod Exits
 pub mod Others
 pub mod eval_nested_lemmas
 -- Passed on to the crates above, which list this one alone.
-pub use Rattle.resin_step_functions.proofs.meaning_lemmas
-pub use Rattle.resin_step_functions.proofs.step_parts_lemmas
+pub use Rattle.resin_eval_nested.proofs.meaning_lemmas
+pub use Rattle.resin_eval_nested.proofs.step_parts_lemmas

@@ -1,11 +1,11 @@
 -- Values that are not what is asked for.
 use Rattle.std.proofs.Common.{◌≡◌, ℤ, refl}
-use Rattle.resin_step_functions.specs.Under.label.Sets.{NumberSet}
-use Rattle.resin_step_functions.specs.Under.scalar.declared.faults.ScriptFault.TheVariants.{BadOperand}
-use Rattle.resin_step_functions.specs.Under.value.declared.value.Value.{Value}
-use Rattle.resin_step_functions.specs.Under.value.declared.value.Value.TheVariants.{Null, Bool as Truth, Int, Text, Arr, Obj}
-use Rattle.resin_step_functions.specs.Under.meaning_forms.Parts.{Evals, faulted}
-use Rattle.resin_step_functions.specs.Under.meaning_forms.Assignments.{incremented, decremented}
+use Rattle.resin_eval_nested.specs.Under.label.Sets.{NumberSet}
+use Rattle.resin_eval_nested.specs.Under.scalar.declared.faults.ScriptFault.TheVariants.{BadOperand}
+use Rattle.resin_eval_nested.specs.Under.value.declared.value.Value.{Value}
+use Rattle.resin_eval_nested.specs.Under.value.declared.value.Value.TheVariants.{Null, Bool as Truth, Int, Text, Arr, Obj}
+use Rattle.resin_eval_nested.specs.Under.meaning_forms.Parts.{Evals, faulted}
+use Rattle.resin_eval_nested.specs.Under.meaning_forms.Assignments.{incremented, decremented}
 
 pub no_more : (ev : Evals) (v : Value) → ((n : ℤ) (s : NumberSet) → v ≡ Int n s → ⊥) → (v ≡ Null → ⊥) → incremented ev v ≡ faulted BadOperand
 no_more ev Null isnt none = absurd (none refl)

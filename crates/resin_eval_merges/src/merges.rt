@@ -1,27 +1,27 @@
 //! Merges, and the operators that make them.
-ghost use Rattle.resin_step_functions.specs.Under.meaning_forms.Forms as form;
-ghost use Rattle.resin_step_functions.specs.Under.meaning_forms.Merges.{fold_on, fold_sets, no_policies};
+ghost use Rattle.resin_eval_nested.specs.Under.meaning_forms.Forms as form;
+ghost use Rattle.resin_eval_nested.specs.Under.meaning_forms.Merges.{fold_on, fold_sets, no_policies};
 ghost use Rattle.resin_eval_nested.specs.Nested.{Nests, means};
 ghost use Rattle.resin_eval_nested.specs.Running.{Performs};
-ghost use Rattle.resin_step_functions.specs.Under.label.Sets.{numbers};
-ghost use Rattle.resin_step_functions.specs.Under.value.Seen.{tree_of};
+ghost use Rattle.resin_eval_nested.specs.Under.label.Sets.{numbers};
+ghost use Rattle.resin_eval_nested.specs.Under.value.Seen.{tree_of};
 ghost use Rattle.std.specs.Prelude.{◌&&◌, ◌≡◌};
 
 use resin_eval_nested::nested::{Evaluator, Nested, Outcome};
 use resin_eval_nested::run::Run;
-use resin_step_functions::policies::with_answered;
-use resin_step_functions::under::base::{Files, Tables};
-use resin_step_functions::under::label::PSet;
-use resin_step_functions::under::lstr::LText;
-use resin_step_functions::under::machine::Stop;
-use resin_step_functions::under::ops::{Arith, arith, to_int, to_number, to_text};
-use resin_step_functions::under::scalar::{CallStop, ScriptFault};
-use resin_step_functions::under::step_parts::operators::{
+use resin_eval_nested::under::step_functions::policies::with_answered;
+use resin_eval_nested::under::base::{Files, Tables};
+use resin_eval_nested::under::label::PSet;
+use resin_eval_nested::under::lstr::LText;
+use resin_eval_nested::under::machine::Stop;
+use resin_eval_nested::under::ops::{Arith, arith, to_int, to_number, to_text};
+use resin_eval_nested::under::scalar::{CallStop, ScriptFault};
+use resin_eval_nested::under::step_parts::operators::{
     arithmetic, charge_one, charge_two, concatenated, given, own_set,
 };
-use resin_step_functions::under::step_parts::reads::{number, object_list};
-use resin_step_functions::under::step_parts::values::{negated, ruled};
-use resin_step_functions::under::value::{Value, Values};
+use resin_eval_nested::under::step_parts::reads::{number, object_list};
+use resin_eval_nested::under::step_parts::values::{negated, ruled};
+use resin_eval_nested::under::value::{Value, Values};
 use resin_tree::{Combining, Unary};
 use std::alloc::Global;
 

@@ -5,12 +5,7 @@ pub mod eval_nested {
     pub use resin_eval_nested::{invoke, nested, run};
 }
 
-pub use resin_eval_nested::under::meaning_forms;
-/// `resin_step_functions`
-pub mod step_functions {
-    pub use resin_step_functions::{functions, policies};
-}
-
-pub use resin_step_functions::under::{
-    base, builtin, label, lstr, machine, ops, scalar, step_parts, target, tree, value,
+pub use resin_eval_nested::under::{
+    base, builtin, label, lstr, machine, meaning_forms, ops, scalar, step_functions, step_parts,
+    target, tree, value,
 };

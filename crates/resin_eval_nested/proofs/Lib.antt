@@ -7,5 +7,3 @@ pub use Rattle.resin_step_objects.proofs.label_lemmas
 pub use Rattle.resin_step_objects.proofs.meaning_lemmas
 pub use Rattle.resin_step_objects.proofs.step_parts_lemmas
 pub use Rattle.resin_step_objects.proofs.target_lemmas
-pub use Rattle.resin_step_objects.proofs.blindness_lemmas
-pub use Rattle.resin_step_objects.proofs.blind_form_lemmas

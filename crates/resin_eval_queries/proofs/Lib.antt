@@ -8,5 +8,3 @@ pub use Rattle.resin_eval_writes.proofs.eval_nested_lemmas
 pub use Rattle.resin_eval_writes.proofs.meaning_lemmas
 pub use Rattle.resin_eval_writes.proofs.step_parts_lemmas
 pub use Rattle.resin_eval_writes.proofs.target_lemmas
-pub use Rattle.resin_eval_writes.proofs.blindness_lemmas
-pub use Rattle.resin_eval_writes.proofs.blind_form_lemmas

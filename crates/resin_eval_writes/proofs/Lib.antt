@@ -9,5 +9,3 @@ pub mod eval_nested_lemmas
 pub use Rattle.resin_eval_nested.proofs.meaning_lemmas
 pub use Rattle.resin_eval_nested.proofs.step_parts_lemmas
 pub use Rattle.resin_eval_nested.proofs.target_lemmas
-pub use Rattle.resin_eval_nested.proofs.blindness_lemmas
-pub use Rattle.resin_eval_nested.proofs.blind_form_lemmas

@@ -11,5 +11,3 @@ pub mod Shapes
 pub use Rattle.resin_eval_calls.proofs.eval_nested_lemmas
 pub use Rattle.resin_eval_calls.proofs.meaning_lemmas
 pub use Rattle.resin_eval_calls.proofs.holding_lemmas
-pub use Rattle.resin_eval_calls.proofs.blindness_lemmas
-pub use Rattle.resin_eval_calls.proofs.blind_form_lemmas

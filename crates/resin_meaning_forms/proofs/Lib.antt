@@ -4,5 +4,3 @@ pub use Rattle.resin_builtin.proofs.bytes_lemmas
 pub use Rattle.resin_builtin.proofs.label_lemmas
 pub use Rattle.resin_meaning_tables.proofs.meaning_lemmas
 pub use Rattle.resin_target.proofs as target_lemmas
-pub mod Blindness
-pub mod blind_forms

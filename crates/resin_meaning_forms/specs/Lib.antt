@@ -24,6 +24,5 @@ pub mod Statements
 pub mod Programs
 pub mod Runs
 pub mod Sessions
-pub mod Blindness
 pub mod Forms
 pub mod Under

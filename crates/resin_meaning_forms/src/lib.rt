@@ -3,11 +3,9 @@
 
 mod callee;
 mod course;
-mod laws;
 mod outgoing;
 pub mod under;
 
 pub use callee::{Callee, ChannelFunction, StateFunction};
 pub use course::{Course, Flow};
-pub use laws::blindness_law;
 pub use outgoing::Outgoing;

@@ -8,5 +8,6 @@ pub mod step_parts {
 }
 
 pub use resin_step_parts::under::{
-    base, builtin, label, lstr, machine, ops, scalar, target, tree, value,
+    base, builtin, bytes, heap, items, journal, label, lstr, machine, meaning, meaning_forms,
+    meaning_tables, ops, scalar, store, target, tree, value,
 };

@@ -1,20 +1,20 @@
 -- Values of constant expressions, one level at a time.
 use Rattle.std.proofs.Common.{◌≡◌, ℕ, ◌+◌, ◌<◌, List, length, drop, get_or, map, Option, None, Some, Result, Ok, Err, IsErrAnd, refl, sym, ap, subst, ◌∙◌}
 use Rattle.std.proofs.lemmas.Result.{err_from_is_err_and}
-use Rattle.resin_step_parts.specs.Under.scalar.declared.faults.CallStop.{CallStop}
-use Rattle.resin_step_parts.specs.Under.scalar.declared.faults.CallStop.TheVariants.{Throw, Fault as CallFault, Memory as CallMemory}
-use Rattle.resin_step_parts.specs.Under.value.declared.value.Value.{Value}
-use Rattle.resin_step_parts.specs.Under.value.declared.value.Value.TheVariants.{Arr}
-use Rattle.resin_step_parts.specs.Under.value.declared.key.Key.{Key}
-use Rattle.resin_step_parts.specs.Under.value.Trees.{Tree}
-use Rattle.resin_step_parts.specs.Under.value.Arrays.{Array}
-use Rattle.resin_step_parts.specs.Under.value.Changes.{empty}
-use Rattle.resin_step_parts.specs.Under.value.Seen.{tree_of}
-use Rattle.resin_step_parts.specs.Under.value.Values.{value_of}
-use Rattle.resin_step_parts.specs.Under.ops.Conversions.{key_of}
-use Rattle.resin_step_parts.specs.Under.ops.Places.{seen_answer}
-use Rattle.resin_step_parts.specs.Under.array_fn.Filled.{and_then, added_at, Addition}
-use Rattle.resin_step_parts.specs.Under.builtin.Rows.{mapped, tree_of_array}
+use Rattle.resin_step_functions.specs.Under.scalar.declared.faults.CallStop.{CallStop}
+use Rattle.resin_step_functions.specs.Under.scalar.declared.faults.CallStop.TheVariants.{Throw, Fault as CallFault, Memory as CallMemory}
+use Rattle.resin_step_functions.specs.Under.value.declared.value.Value.{Value}
+use Rattle.resin_step_functions.specs.Under.value.declared.value.Value.TheVariants.{Arr}
+use Rattle.resin_step_functions.specs.Under.value.declared.key.Key.{Key}
+use Rattle.resin_step_functions.specs.Under.value.Trees.{Tree}
+use Rattle.resin_step_functions.specs.Under.value.Arrays.{Array}
+use Rattle.resin_step_functions.specs.Under.value.Changes.{empty}
+use Rattle.resin_step_functions.specs.Under.value.Seen.{tree_of}
+use Rattle.resin_step_functions.specs.Under.value.Values.{value_of}
+use Rattle.resin_step_functions.specs.Under.ops.Conversions.{key_of}
+use Rattle.resin_step_functions.specs.Under.ops.Places.{seen_answer}
+use Rattle.resin_step_functions.specs.Under.array_fn.Filled.{and_then, added_at, Addition}
+use Rattle.resin_step_functions.specs.Under.builtin.Rows.{mapped, tree_of_array}
 use Rattle.resin_tree.specs.declared.declaration.Constant.{Constant, Constant-F, fold-Constant, fold-roll-Constant}
 use Rattle.resin_tree.specs.declared.declaration.Constant.TheVariants as constant
 use Rattle.resin_tree.specs.declared.declaration.ConstantItem.{ConstantItem, out-ConstantItem, fold-ConstantItem, fold_out-ConstantItem, map-ConstantItem}
@@ -22,12 +22,12 @@ use Rattle.resin_tree.specs.declared.expression.Literal.{Literal}
 use Rattle.resin_tree.specs.declared.expression.Literal.TheVariants as literal
 use Rattle.resin_tree.specs.declared.expression.ConstantName.{ConstantName}
 use Rattle.resin_tree.specs.declared.expression.ConstantName.TheVariants as name
-use Rattle.resin_step_parts.specs.Under.target.Reads.{GivesOrNoMemory}
-use Rattle.resin_step_parts.proofs.meaning_lemmas.Composition.{front}
-use Rattle.resin_step_parts.specs.Under.scalar.Stops.{Gives}
-use Rattle.resin_step_parts.proofs.Answered.{gives_or}
-use Rattle.resin_step_parts.specs.Under.meaning_forms.Invoke.{ItemValue, item_of, constant_layer, constant_value, item_value, literal_of, constant_of, addition_of, with_item, with_items}
-use Rattle.resin_step_parts.proofs.Pure.{stopped_items}
+use Rattle.resin_step_functions.specs.Under.target.Reads.{GivesOrNoMemory}
+use Rattle.resin_step_functions.proofs.meaning_lemmas.Composition.{front}
+use Rattle.resin_step_functions.specs.Under.scalar.Stops.{Gives}
+use Rattle.resin_step_functions.proofs.step_parts_lemmas.Answered.{gives_or}
+use Rattle.resin_step_functions.specs.Under.meaning_forms.Invoke.{ItemValue, item_of, constant_layer, constant_value, item_value, literal_of, constant_of, addition_of, with_item, with_items}
+use Rattle.resin_step_functions.proofs.step_parts_lemmas.Pure.{stopped_items}
 
 -- ---- one level
 

@@ -6,38 +6,38 @@ use Rattle.std.specs.List.{flat_map}
 use Rattle.std.specs.Option.{option_map_or, option_and_then}
 use Rattle.std.proofs.lemmas.Result.{err_from_is_err_and}
 use Rattle.std.proofs.lemmas.List.{drop_all}
-use Rattle.resin_step_parts.specs.Under.scalar.declared.faults.CallStop.{CallStop}
-use Rattle.resin_step_parts.specs.Under.scalar.declared.faults.CallStop.TheVariants.{Throw, Fault as CallFault, Memory as CallMemory}
-use Rattle.resin_step_parts.specs.Under.scalar.declared.faults.ScriptFault.TheVariants.{UndefinedMethod, UndefinedClass, BadOperand}
-use Rattle.resin_step_parts.specs.Under.value.declared.value.Value.{Value}
-use Rattle.resin_step_parts.specs.Under.value.declared.value.Value.TheVariants.{Null, Int, Text, Arr, Obj, Bool as Truth}
-use Rattle.resin_step_parts.specs.Under.value.Trees.{Tree}
-use Rattle.resin_step_parts.specs.Under.value.Seen.{tree_of}
-use Rattle.resin_step_parts.specs.Under.value.Values.{value_of, value_of-tree_of}
+use Rattle.resin_step_functions.specs.Under.scalar.declared.faults.CallStop.{CallStop}
+use Rattle.resin_step_functions.specs.Under.scalar.declared.faults.CallStop.TheVariants.{Throw, Fault as CallFault, Memory as CallMemory}
+use Rattle.resin_step_functions.specs.Under.scalar.declared.faults.ScriptFault.TheVariants.{UndefinedMethod, UndefinedClass, BadOperand}
+use Rattle.resin_step_functions.specs.Under.value.declared.value.Value.{Value}
+use Rattle.resin_step_functions.specs.Under.value.declared.value.Value.TheVariants.{Null, Int, Text, Arr, Obj, Bool as Truth}
+use Rattle.resin_step_functions.specs.Under.value.Trees.{Tree}
+use Rattle.resin_step_functions.specs.Under.value.Seen.{tree_of}
+use Rattle.resin_step_functions.specs.Under.value.Values.{value_of, value_of-tree_of}
 use Rattle.resin_tree.specs.declared.declaration.ClassDecl.{ClassDecl}
 use Rattle.resin_tree.specs.declared.declaration.Parameter.{Parameter}
 use Rattle.resin_tree.specs.declared.declaration.Property.{Property}
-use Rattle.resin_step_parts.specs.Under.heap.Classes.{Table, line, line_within, parent_in, parent_of, find_method as find_in, first_method, method_of, own_properties, properties_of}
-use Rattle.resin_step_parts.specs.Under.heap.declared.classes.MethodAt.{MethodAt}
-use Rattle.resin_step_parts.specs.Under.machine.declared.stop.Stop.{Stop}
-use Rattle.resin_step_parts.specs.Under.machine.declared.stop.Stop.TheVariants.{Fault, Memory}
-use Rattle.resin_step_parts.specs.Under.machine.State.{State}
-use Rattle.resin_step_parts.specs.Under.machine.Steps.{Acts, ActsLoosely}
-use Rattle.resin_step_parts.specs.Under.machine.Variables.{assign}
-use Rattle.resin_step_parts.specs.Under.heap.Prelude.{number_of}
-use Rattle.resin_step_parts.specs.Under.heap.declared.prelude.PreludeClass.TheVariants.{Throwable}
-use Rattle.resin_step_parts.specs.Under.machine.Objects.{find_class_of, make_object, settled, last_number}
-use Rattle.resin_step_parts.specs.Under.meaning.Programs.{Prog, give, act, ◌>>=◌}
-use Rattle.resin_step_parts.specs.Under.meaning.Runs.{World, world, Does}
-use Rattle.resin_step_parts.proofs.meaning_lemmas.Composition.{does_act, does_next, does_stop, does_give, does_nothing, does_unbegun, front, front_number, nothing_left}
-use Rattle.resin_step_parts.proofs.Answered.{does_looked}
-use Rattle.resin_step_parts.specs.Under.meaning_forms.Runs.{Runs, on_ok}
-use Rattle.resin_step_parts.specs.Under.meaning_forms.Parts.{faulted, looked, ◌>>◌}
-use Rattle.resin_step_parts.specs.Under.meaning_forms.Invoke.{Method, argument_for, bind, first_of, behind_first, declared_at, method_named, or_undefined, find_method}
-use Rattle.resin_step_parts.specs.Under.meaning_forms.Calls.{class_to_make, makeable, object_of, or_orphan, parent_class, set_property, set_properties, with_properties}
+use Rattle.resin_step_functions.specs.Under.heap.Classes.{Table, line, line_within, parent_in, parent_of, find_method as find_in, first_method, method_of, own_properties, properties_of}
+use Rattle.resin_step_functions.specs.Under.heap.declared.classes.MethodAt.{MethodAt}
+use Rattle.resin_step_functions.specs.Under.machine.declared.stop.Stop.{Stop}
+use Rattle.resin_step_functions.specs.Under.machine.declared.stop.Stop.TheVariants.{Fault, Memory}
+use Rattle.resin_step_functions.specs.Under.machine.State.{State}
+use Rattle.resin_step_functions.specs.Under.machine.Steps.{Acts, ActsLoosely}
+use Rattle.resin_step_functions.specs.Under.machine.Variables.{assign}
+use Rattle.resin_step_functions.specs.Under.heap.Prelude.{number_of}
+use Rattle.resin_step_functions.specs.Under.heap.declared.prelude.PreludeClass.TheVariants.{Throwable}
+use Rattle.resin_step_functions.specs.Under.machine.Objects.{find_class_of, make_object, settled, last_number}
+use Rattle.resin_step_functions.specs.Under.meaning.Programs.{Prog, give, act, ◌>>=◌}
+use Rattle.resin_step_functions.specs.Under.meaning.Runs.{World, world, Does}
+use Rattle.resin_step_functions.proofs.meaning_lemmas.Composition.{does_act, does_next, does_stop, does_give, does_nothing, does_unbegun, front, front_number, nothing_left}
+use Rattle.resin_step_functions.proofs.step_parts_lemmas.Answered.{does_looked}
+use Rattle.resin_step_functions.specs.Under.meaning_forms.Runs.{Runs, on_ok}
+use Rattle.resin_step_functions.specs.Under.meaning_forms.Parts.{faulted, looked, ◌>>◌}
+use Rattle.resin_step_functions.specs.Under.meaning_forms.Invoke.{Method, argument_for, bind, first_of, behind_first, declared_at, method_named, or_undefined, find_method}
+use Rattle.resin_step_functions.specs.Under.meaning_forms.Calls.{class_to_make, makeable, object_of, or_orphan, parent_class, set_property, set_properties, with_properties}
 use Rattle.resin_step_objects.specs.Beginnings.{Begins}
-use Rattle.resin_step_parts.proofs.Loops.{leaves_done}
-use Rattle.resin_step_parts.proofs.Steps.{Leaves, leaves_here, does_faulted}
+use Rattle.resin_step_functions.proofs.step_parts_lemmas.Loops.{leaves_done}
+use Rattle.resin_step_functions.proofs.step_parts_lemmas.Steps.{Leaves, leaves_here, does_faulted}
 
 slice_past : {X : Type 0} (xs : List X) (i : ℕ) → length xs ≤ i → slice_get xs i ≡ None
 slice_past [] i h = refl

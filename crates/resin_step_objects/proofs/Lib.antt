@@ -1,10 +1,8 @@
 pub mod ConstantValues
 pub mod Found
-pub mod step_parts_lemmas
 -- Passed on to the crates above, which list this one alone.
-pub use Rattle.resin_step_parts.proofs.bytes_lemmas
-pub use Rattle.resin_step_parts.proofs.label_lemmas
-pub use Rattle.resin_step_parts.proofs.meaning_lemmas
-pub use Rattle.resin_step_parts.proofs.target_lemmas
-pub use Rattle.resin_step_parts.proofs.blindness_lemmas
-pub use Rattle.resin_step_parts.proofs.blind_form_lemmas
+pub use Rattle.resin_step_functions.proofs.bytes_lemmas
+pub use Rattle.resin_step_functions.proofs.label_lemmas
+pub use Rattle.resin_step_functions.proofs.meaning_lemmas
+pub use Rattle.resin_step_functions.proofs.step_parts_lemmas
+pub use Rattle.resin_step_functions.proofs.target_lemmas

@@ -1,16 +1,16 @@
 //! What a call reaches.
-ghost use Rattle.resin_step_parts.specs.Under.meaning_forms.Calls.{object_of, parent_class};
-ghost use Rattle.resin_step_parts.specs.Under.meaning_forms.Merges.{values_in};
-ghost use Rattle.resin_step_parts.specs.Under.meaning_forms.Runs.{Runs};
-ghost use Rattle.resin_step_parts.specs.Under.value.Seen.{trees_of};
+ghost use Rattle.resin_step_functions.specs.Under.meaning_forms.Calls.{object_of, parent_class};
+ghost use Rattle.resin_step_functions.specs.Under.meaning_forms.Merges.{values_in};
+ghost use Rattle.resin_step_functions.specs.Under.meaning_forms.Runs.{Runs};
+ghost use Rattle.resin_step_functions.specs.Under.value.Seen.{trees_of};
 ghost use Rattle.std.specs.Prelude.{IfOk, ◌≡◌};
-ghost use Rattle.resin_step_parts.specs.Under.heap.Classes.{parent_of};
+ghost use Rattle.resin_step_functions.specs.Under.heap.Classes.{parent_of};
 ghost use Rattle.std.specs.Option.{option_and_then};
 ghost use Rattle.std.specs.Str.{str_to_ascii_lowercase};
 
-use resin_step_parts::under::machine::{Machine, Stop};
-use resin_step_parts::under::scalar::ScriptFault;
-use resin_step_parts::under::value::{Arr, Value, Values};
+use resin_step_functions::under::machine::{Machine, Stop};
+use resin_step_functions::under::scalar::ScriptFault;
+use resin_step_functions::under::value::{Arr, Value, Values};
 use std::alloc::{AllocError, Global};
 
 /// The values of an array, as arguments.

@@ -1,19 +1,19 @@
 //! Constant expressions.
-ghost use Rattle.resin_step_parts.specs.Under.builtin.Rows.{mapped};
-ghost use Rattle.resin_step_parts.specs.Under.meaning_forms.Invoke.{addition_of, constant_program, constant_value, item_value, with_items};
-ghost use Rattle.resin_step_parts.specs.Under.meaning_forms.Runs.{Runs};
-ghost use Rattle.resin_step_parts.specs.Under.ops.Places.{seen_answer};
-ghost use Rattle.resin_step_parts.specs.Under.target.Reads.{GivesOrNoMemory};
-ghost use Rattle.resin_step_parts.specs.Under.value.Changes.{empty as no_entries};
-ghost use Rattle.resin_step_parts.specs.Under.value.Keys.{is_lawful};
-ghost use Rattle.resin_step_parts.specs.Under.value.Seen.{tree_of};
+ghost use Rattle.resin_step_functions.specs.Under.builtin.Rows.{mapped};
+ghost use Rattle.resin_step_functions.specs.Under.meaning_forms.Invoke.{addition_of, constant_program, constant_value, item_value, with_items};
+ghost use Rattle.resin_step_functions.specs.Under.meaning_forms.Runs.{Runs};
+ghost use Rattle.resin_step_functions.specs.Under.ops.Places.{seen_answer};
+ghost use Rattle.resin_step_functions.specs.Under.target.Reads.{GivesOrNoMemory};
+ghost use Rattle.resin_step_functions.specs.Under.value.Changes.{empty as no_entries};
+ghost use Rattle.resin_step_functions.specs.Under.value.Keys.{is_lawful};
+ghost use Rattle.resin_step_functions.specs.Under.value.Seen.{tree_of};
 ghost use Rattle.std.specs.Prelude.{IfOk, IfSome, IsTrue, OnOk, Ok, map, ◌≡◌};
 
-use resin_step_parts::reads::{literal_value, with_entry};
-use resin_step_parts::under::machine::{Machine, Stop};
-use resin_step_parts::under::ops::to_key;
-use resin_step_parts::under::scalar::CallStop;
-use resin_step_parts::under::value::{Arr, Key, Value};
+use resin_step_functions::under::step_parts::reads::{literal_value, with_entry};
+use resin_step_functions::under::machine::{Machine, Stop};
+use resin_step_functions::under::ops::to_key;
+use resin_step_functions::under::scalar::CallStop;
+use resin_step_functions::under::value::{Arr, Key, Value};
 use resin_tree::{Constant, ConstantItem};
 use std::alloc::Global;
 

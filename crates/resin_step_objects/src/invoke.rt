@@ -1,17 +1,17 @@
 //! Parameters, methods that were found, and the bodies of the methods of the runtime's own classes.
-ghost use Rattle.resin_step_parts.specs.Under.meaning_forms.Invoke.{argument_for, bind, default_value, find_method, method_named, own_body, result_of};
-ghost use Rattle.resin_step_parts.specs.Under.meaning_forms.Runs.{Runs, on_ok};
+ghost use Rattle.resin_step_functions.specs.Under.meaning_forms.Invoke.{argument_for, bind, default_value, find_method, method_named, own_body, result_of};
+ghost use Rattle.resin_step_functions.specs.Under.meaning_forms.Runs.{Runs, on_ok};
 ghost use Rattle.resin_step_objects.specs.Methods.{seen_method};
 ghost use Rattle.std.specs.Option.{option_copied, option_map};
 ghost use Rattle.std.specs.Prelude.{IfOk, slice_get, ◌≡◌};
 
 use crate::constants::constant_value;
-use resin_step_parts::reads::object_list;
-use resin_step_parts::under::heap::{MethodAt, PreludeClass, PreludeMethod};
-use resin_step_parts::under::machine::{Machine, Stop};
-use resin_step_parts::under::meaning_forms::Course;
-use resin_step_parts::under::scalar::ScriptFault;
-use resin_step_parts::under::value::{Value, Values};
+use resin_step_functions::under::step_parts::reads::object_list;
+use resin_step_functions::under::heap::{MethodAt, PreludeClass, PreludeMethod};
+use resin_step_functions::under::machine::{Machine, Stop};
+use resin_step_functions::under::meaning_forms::Course;
+use resin_step_functions::under::scalar::ScriptFault;
+use resin_step_functions::under::value::{Value, Values};
 use resin_tree::{Function, Parameter};
 use std::alloc::{AllocError, Global};
 

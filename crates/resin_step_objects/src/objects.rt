@@ -1,16 +1,16 @@
 //! New objects.
-ghost use Rattle.resin_step_parts.specs.Under.meaning_forms.Calls.{class_to_make, property_value, set_properties, set_property, with_properties};
-ghost use Rattle.resin_step_parts.specs.Under.meaning_forms.Runs.{Runs};
-ghost use Rattle.resin_step_parts.specs.Under.heap.Classes.{own_properties};
+ghost use Rattle.resin_step_functions.specs.Under.meaning_forms.Calls.{class_to_make, property_value, set_properties, set_property, with_properties};
+ghost use Rattle.resin_step_functions.specs.Under.meaning_forms.Runs.{Runs};
+ghost use Rattle.resin_step_functions.specs.Under.heap.Classes.{own_properties};
 ghost use Rattle.resin_step_objects.specs.Beginnings.{Begins};
 ghost use Rattle.resin_tree.specs.declared.declaration.Property.{Property as AnyProperty};
 ghost use Rattle.std.specs.Prelude.{List, OnOk, ◌++◌, ◌≡◌};
 
 use crate::constants::constant_value;
-use resin_step_parts::under::heap::PreludeClass;
-use resin_step_parts::under::machine::{Machine, Stop};
-use resin_step_parts::under::scalar::ScriptFault;
-use resin_step_parts::under::value::Value;
+use resin_step_functions::under::heap::PreludeClass;
+use resin_step_functions::under::machine::{Machine, Stop};
+use resin_step_functions::under::scalar::ScriptFault;
+use resin_step_functions::under::value::Value;
 use resin_tree::Property;
 use std::alloc::Global;
 

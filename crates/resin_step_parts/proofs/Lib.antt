@@ -13,5 +13,3 @@ pub use Rattle.resin_meaning_forms.proofs.bytes_lemmas
 pub use Rattle.resin_meaning_forms.proofs.label_lemmas
 pub use Rattle.resin_meaning_forms.proofs.meaning_lemmas
 pub use Rattle.resin_meaning_forms.proofs.target_lemmas
-pub use Rattle.resin_meaning_forms.proofs.Blindness as blindness_lemmas
-pub use Rattle.resin_meaning_forms.proofs.blind_forms as blind_form_lemmas

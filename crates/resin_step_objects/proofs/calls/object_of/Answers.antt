@@ -1,6 +1,6 @@
-use Rattle.resin_step_parts.proofs.meaning_lemmas.Composition.{does_give}
+use Rattle.resin_step_functions.proofs.meaning_lemmas.Composition.{does_give}
 use Rattle.resin_step_objects.proofs.Found.{no_object}
-use Rattle.resin_step_parts.proofs.Steps.{fault_there}
+use Rattle.resin_step_functions.proofs.step_parts_lemmas.Steps.{fault_there}
 use Rattle.resin_step_objects.proofs.calls.object_of.Goals as goal
 
 pub returns-in-Obj : goal.returns-in-Obj

@@ -1,4 +1,4 @@
-use Rattle.resin_step_parts.proofs.Pure.{value_added}
+use Rattle.resin_step_functions.proofs.step_parts_lemmas.Pure.{value_added}
 use Rattle.std.proofs.Common.{arith}
 use Rattle.resin_step_objects.proofs.calls.values_in.Goals as goal
 

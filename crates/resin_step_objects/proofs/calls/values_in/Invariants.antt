@@ -1,4 +1,4 @@
-use Rattle.resin_step_parts.specs.Under.value.Seen.{trees_of}
+use Rattle.resin_step_functions.specs.Under.value.Seen.{trees_of}
 use Rattle.std.proofs.Common.{drop, length, map, ◌++◌, ◌-◌, ◌≡◌, ◌≤◌}
 use Rattle.resin_step_objects.proofs.calls.values_in.Given as goal
 

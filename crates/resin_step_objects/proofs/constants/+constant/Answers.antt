@@ -1,5 +1,5 @@
-use Rattle.resin_step_parts.specs.Under.meaning_forms.Invoke.{item_value, with_items}
-use Rattle.resin_step_parts.proofs.meaning_lemmas.Composition.{nothing_left}
+use Rattle.resin_step_functions.specs.Under.meaning_forms.Invoke.{item_value, with_items}
+use Rattle.resin_step_functions.proofs.meaning_lemmas.Composition.{nothing_left}
 use Rattle.resin_step_objects.proofs.ConstantValues.{array_made, array_stops, entry_stops, item_stops, items_more, key_stops, keyed_added, literal_made, plain_added, plain_stops, turn_stops, value_stops}
 use Rattle.std.proofs.Common.{Ok, ap, map, sym, ◌∙◌}
 use Rattle.resin_step_objects.proofs.constants.+constant.Goals as goal

@@ -1,5 +1,5 @@
-use Rattle.resin_step_parts.specs.Under.meaning_forms.Invoke.{item_value, with_items}
-use Rattle.resin_step_parts.specs.Under.value.Changes.{empty}
+use Rattle.resin_step_functions.specs.Under.meaning_forms.Invoke.{item_value, with_items}
+use Rattle.resin_step_functions.specs.Under.value.Changes.{empty}
 use Rattle.std.proofs.Common.{Ok, drop, map, ◌≡◌}
 use Rattle.resin_step_objects.proofs.constants.+constant.Given as goal
 

@@ -1,5 +1,5 @@
 use Rattle.resin_step_objects.proofs.Found.{does_value, settle_keeps}
-use Rattle.resin_step_parts.proofs.Steps.{does_computed_tree}
+use Rattle.resin_step_functions.proofs.step_parts_lemmas.Steps.{does_computed_tree}
 use Rattle.resin_step_objects.proofs.constants.constant_value.Goals as goal
 
 pub returns-clause-does : goal.returns-clause-does

@@ -1,5 +1,5 @@
-use Rattle.resin_step_parts.proofs.meaning_lemmas.Composition.{does_give}
-use Rattle.resin_step_parts.proofs.Steps.{does_lost_give}
+use Rattle.resin_step_functions.proofs.meaning_lemmas.Composition.{does_give}
+use Rattle.resin_step_functions.proofs.step_parts_lemmas.Steps.{does_lost_give}
 use Rattle.std.proofs.Common.{sym}
 use Rattle.resin_step_objects.proofs.invoke.argument_for.Goals as goal
 

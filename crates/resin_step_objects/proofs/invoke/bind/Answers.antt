@@ -1,7 +1,7 @@
-use Rattle.resin_step_parts.proofs.meaning_lemmas.Composition.{nothing_left}
-use Rattle.resin_step_parts.proofs.Loops.{leaves_done}
-use Rattle.resin_step_parts.proofs.Steps.{leaves_here}
-use Rattle.resin_step_parts.specs.Under.meaning_forms.Invoke.{bind}
+use Rattle.resin_step_functions.proofs.meaning_lemmas.Composition.{nothing_left}
+use Rattle.resin_step_functions.proofs.step_parts_lemmas.Loops.{leaves_done}
+use Rattle.resin_step_functions.proofs.step_parts_lemmas.Steps.{leaves_here}
+use Rattle.resin_step_functions.specs.Under.meaning_forms.Invoke.{bind}
 use Rattle.resin_step_objects.proofs.Found.{argument_stops, assigning_stops, bound_more}
 use Rattle.std.proofs.Common.{ap, drop}
 use Rattle.resin_step_objects.proofs.invoke.bind.Goals as goal

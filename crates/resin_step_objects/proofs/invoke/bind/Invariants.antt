@@ -1,5 +1,5 @@
-use Rattle.resin_step_parts.specs.Under.meaning_forms.Invoke.{bind}
-use Rattle.resin_step_parts.proofs.Steps.{Leaves}
+use Rattle.resin_step_functions.specs.Under.meaning_forms.Invoke.{bind}
+use Rattle.resin_step_functions.proofs.step_parts_lemmas.Steps.{Leaves}
 use Rattle.std.proofs.Common.{drop}
 use Rattle.resin_step_objects.proofs.invoke.bind.Given as goal
 

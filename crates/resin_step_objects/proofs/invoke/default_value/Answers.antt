@@ -1,4 +1,4 @@
-use Rattle.resin_step_parts.proofs.meaning_lemmas.Composition.{does_loosely}
+use Rattle.resin_step_functions.proofs.meaning_lemmas.Composition.{does_loosely}
 use Rattle.resin_step_objects.proofs.invoke.default_value.Goals as goal
 
 pub returns-in-Some : goal.returns-in-Some

@@ -1,6 +1,6 @@
-use Rattle.resin_step_parts.proofs.meaning_lemmas.Composition.{does_unbegun}
+use Rattle.resin_step_functions.proofs.meaning_lemmas.Composition.{does_unbegun}
 use Rattle.resin_step_objects.proofs.Found.{method_found, method_unfound}
-use Rattle.resin_step_parts.proofs.Loops.{handed_seen}
+use Rattle.resin_step_functions.proofs.step_parts_lemmas.Loops.{handed_seen}
 use Rattle.resin_step_objects.specs.Methods.{seen_method}
 use Rattle.std.proofs.Common.{ap, sym, ◌∙◌}
 use Rattle.std.specs.Option.{option_map}

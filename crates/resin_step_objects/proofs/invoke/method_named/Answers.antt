@@ -1,4 +1,4 @@
-use Rattle.resin_step_parts.specs.Under.heap.Classes.{method_of}
+use Rattle.resin_step_functions.specs.Under.heap.Classes.{method_of}
 use Rattle.resin_step_objects.proofs.Found.{method_missing, undeclared_method}
 use Rattle.std.proofs.Common.{ap, arith, length, ◌∙◌}
 use Rattle.resin_step_objects.proofs.invoke.method_named.Goals as goal

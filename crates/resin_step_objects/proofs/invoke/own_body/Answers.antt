@@ -1,5 +1,5 @@
-use Rattle.resin_step_parts.proofs.meaning_lemmas.Composition.{does_act, does_exit, does_give, does_loosely, does_next}
-use Rattle.resin_step_parts.proofs.Answered.{does_computed}
+use Rattle.resin_step_functions.proofs.meaning_lemmas.Composition.{does_act, does_exit, does_give, does_loosely, does_next}
+use Rattle.resin_step_functions.proofs.step_parts_lemmas.Answered.{does_computed}
 use Rattle.resin_step_objects.proofs.invoke.own_body.Goals as goal
 
 pub returns-in-Construct : goal.returns-in-Construct

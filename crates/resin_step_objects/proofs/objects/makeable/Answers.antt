@@ -1,4 +1,4 @@
-use Rattle.resin_step_parts.proofs.meaning_lemmas.Composition.{does_act, does_exit}
+use Rattle.resin_step_functions.proofs.meaning_lemmas.Composition.{does_act, does_exit}
 use Rattle.resin_step_objects.proofs.Found.{made_of, unmakeable}
 use Rattle.std.proofs.Common.{arith, ◌∙◌}
 use Rattle.resin_step_objects.proofs.objects.makeable.Goals as goal

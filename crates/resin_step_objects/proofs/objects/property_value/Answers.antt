@@ -1,4 +1,4 @@
-use Rattle.resin_step_parts.proofs.meaning_lemmas.Composition.{does_give}
+use Rattle.resin_step_functions.proofs.meaning_lemmas.Composition.{does_give}
 use Rattle.resin_step_objects.proofs.objects.property_value.Goals as goal
 
 pub returns-in-Some-clause-does : goal.returns-in-Some-clause-does

@@ -1,5 +1,5 @@
 use Rattle.resin_step_objects.proofs.Found.{begun_err, none_begun, own_declared, own_begun, own_stops, properties_unbegun, property_more}
-use Rattle.resin_step_parts.proofs.Steps.{leaves_here}
+use Rattle.resin_step_functions.proofs.step_parts_lemmas.Steps.{leaves_here}
 use Rattle.std.proofs.Common.{ap, arith, length, refl, sym, ◌∙◌}
 use Rattle.resin_step_objects.proofs.objects.set_properties.Goals as goal
 

@@ -1,5 +1,5 @@
-use Rattle.resin_step_parts.specs.Under.meaning_forms.Calls.{set_properties}
-use Rattle.resin_step_parts.proofs.Steps.{Leaves}
+use Rattle.resin_step_functions.specs.Under.meaning_forms.Calls.{set_properties}
+use Rattle.resin_step_functions.proofs.step_parts_lemmas.Steps.{Leaves}
 use Rattle.resin_tree.specs.declared.declaration.Property.{Property}
 use Rattle.std.proofs.Common.{List, drop, ◌++◌, ◌≡◌}
 use Rattle.resin_step_objects.proofs.objects.set_properties.Given as goal

@@ -1,4 +1,4 @@
-use Rattle.resin_step_parts.proofs.meaning_lemmas.Composition.{does_act, does_exit, does_next}
+use Rattle.resin_step_functions.proofs.meaning_lemmas.Composition.{does_act, does_exit, does_next}
 use Rattle.resin_step_objects.proofs.objects.set_property.Goals as goal
 
 pub returns-in_err-v-clause-does : goal.returns-in_err-v-clause-does

@@ -1,6 +1,6 @@
-use Rattle.resin_step_parts.specs.Under.heap.Classes.{line}
-use Rattle.resin_step_parts.proofs.meaning_lemmas.Composition.{does_act, does_exit, does_give, does_lost_exit}
-use Rattle.resin_step_parts.proofs.Steps.{does_handed, leaves_here}
+use Rattle.resin_step_functions.specs.Under.heap.Classes.{line}
+use Rattle.resin_step_functions.proofs.meaning_lemmas.Composition.{does_act, does_exit, does_give, does_lost_exit}
+use Rattle.resin_step_functions.proofs.step_parts_lemmas.Steps.{does_handed, leaves_here}
 use Rattle.resin_step_objects.proofs.Found.{class_more, class_stops, classes_done, line_properties, no_properties, object_furnished, object_unfurnished}
 use Rattle.std.proofs.Common.{[], ap, arith, length, refl, reverse, sym, ◌∙◌}
 use Rattle.resin_step_objects.proofs.objects.with_properties.Goals as goal

@@ -1,6 +1,6 @@
-use Rattle.resin_step_parts.specs.Under.meaning_forms.Calls.{set_properties}
-use Rattle.resin_step_parts.specs.Under.heap.Classes.{own_properties}
-use Rattle.resin_step_parts.proofs.Steps.{Leaves}
+use Rattle.resin_step_functions.specs.Under.meaning_forms.Calls.{set_properties}
+use Rattle.resin_step_functions.specs.Under.heap.Classes.{own_properties}
+use Rattle.resin_step_functions.proofs.step_parts_lemmas.Steps.{Leaves}
 use Rattle.std.proofs.Common.{drop, ◌≡◌}
 use Rattle.std.specs.List.{flat_map}
 use Rattle.resin_step_objects.proofs.objects.with_properties.Given as goal

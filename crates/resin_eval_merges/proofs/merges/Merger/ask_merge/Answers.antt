@@ -1,6 +1,6 @@
 use Rattle.resin_eval_nested.proofs.Arms.{does_settled}
-use Rattle.resin_step_functions.proofs.meaning_lemmas.Composition.{does_exit, does_give, does_lost_exit, does_next, does_stop}
-use Rattle.resin_step_functions.proofs.meaning_lemmas.Enclosures.{does_quietly}
+use Rattle.resin_eval_nested.proofs.meaning_lemmas.Composition.{does_exit, does_give, does_lost_exit, does_next, does_stop}
+use Rattle.resin_eval_nested.proofs.meaning_lemmas.Enclosures.{does_quietly}
 use Rattle.resin_eval_merges.proofs.merges.Merger.ask_merge.Goals as goal
 
 pub returns-in_err-set : goal.returns-in_err-set

@@ -1,6 +1,6 @@
-use Rattle.resin_step_functions.specs.Under.meaning_forms.Merges.{ask_merges}
-use Rattle.resin_step_functions.specs.Under.meaning_forms.Programs.{evals}
-use Rattle.resin_step_functions.specs.Under.meaning.Runs.{Leads}
+use Rattle.resin_eval_nested.specs.Under.meaning_forms.Merges.{ask_merges}
+use Rattle.resin_eval_nested.specs.Under.meaning_forms.Programs.{evals}
+use Rattle.resin_eval_nested.specs.Under.meaning.Runs.{Leads}
 use Rattle.std.proofs.Common.{drop}
 use Rattle.resin_eval_nested.specs.Running.{at}
 use Rattle.resin_eval_merges.proofs.merges.Merger.ask_merges.Given as goal

@@ -1,4 +1,4 @@
-use Rattle.resin_step_functions.proofs.meaning_lemmas.Composition.{does_exit, does_give, does_loosely, does_next}
+use Rattle.resin_eval_nested.proofs.meaning_lemmas.Composition.{does_exit, does_give, does_loosely, does_next}
 use Rattle.std.proofs.Common.{rules, w64}
 use Rattle.std.proofs.lemmas.Int.{to_z-of_z}
 use mir.Val.{SFits}

@@ -1,9 +1,9 @@
-use Rattle.resin_step_functions.specs.Under.meaning_forms.Operators.{calculated, concatenated}
-use Rattle.resin_step_functions.specs.Under.meaning_forms.Programs.{evals}
+use Rattle.resin_eval_nested.specs.Under.meaning_forms.Operators.{calculated, concatenated}
+use Rattle.resin_eval_nested.specs.Under.meaning_forms.Programs.{evals}
 use Rattle.resin_eval_nested.proofs.Exits.{does_is}
-use Rattle.resin_step_functions.specs.Under.ops.declared.operator.Arith.{Arith}
-use Rattle.resin_step_functions.proofs.meaning_lemmas.Composition.{does_exit, does_next}
-use Rattle.resin_step_functions.specs.Under.value.Seen.{tree_of}
+use Rattle.resin_eval_nested.specs.Under.ops.declared.operator.Arith.{Arith}
+use Rattle.resin_eval_nested.proofs.meaning_lemmas.Composition.{does_exit, does_next}
+use Rattle.resin_eval_nested.specs.Under.value.Seen.{tree_of}
 use Rattle.std.proofs.Common.{Option, ap, ◌∙◌}
 use Rattle.std.specs.Option.{option_map_or}
 use Rattle.resin_eval_merges.proofs.merges.Merger.combined.Goals as goal

@@ -1,10 +1,10 @@
-use Rattle.resin_step_functions.specs.Under.meaning_forms.Assignments.{decremented}
-use Rattle.resin_step_functions.specs.Under.meaning_forms.Programs.{evals}
+use Rattle.resin_eval_nested.specs.Under.meaning_forms.Assignments.{decremented}
+use Rattle.resin_eval_nested.specs.Under.meaning_forms.Programs.{evals}
 use Rattle.resin_eval_nested.proofs.Arms.{does_faulted}
 use Rattle.resin_eval_nested.proofs.Exits.{does_is}
 use Rattle.resin_eval_merges.proofs.Others.{no_less}
-use Rattle.resin_step_functions.proofs.meaning_lemmas.Composition.{does_exit, does_give, does_loosely, does_next}
-use Rattle.resin_step_functions.specs.Under.value.declared.value.Value.{Value}
+use Rattle.resin_eval_nested.proofs.meaning_lemmas.Composition.{does_exit, does_give, does_loosely, does_next}
+use Rattle.resin_eval_nested.specs.Under.value.declared.value.Value.{Value}
 use Rattle.std.proofs.Common.{ap, rules, w64}
 use Rattle.std.proofs.lemmas.Int.{to_z-of_z}
 use mir.Val.{SFits}

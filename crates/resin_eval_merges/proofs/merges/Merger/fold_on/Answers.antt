@@ -1,4 +1,4 @@
-use Rattle.resin_step_functions.proofs.meaning_lemmas.Composition.{does_exit, does_give, does_next, front, leads_here, nothing_left}
+use Rattle.resin_eval_nested.proofs.meaning_lemmas.Composition.{does_exit, does_give, does_next, front, leads_here, nothing_left}
 use Rattle.resin_eval_merges.proofs.merges.Merger.fold_on.Goals as goal
 
 pub loop-set-init : goal.loop-set-init

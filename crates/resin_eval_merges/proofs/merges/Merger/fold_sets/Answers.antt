@@ -1,10 +1,10 @@
-use Rattle.resin_step_functions.specs.Under.meaning_forms.Merges.{fold_sets}
-use Rattle.resin_step_functions.specs.Under.meaning_forms.Programs.{evals}
+use Rattle.resin_eval_nested.specs.Under.meaning_forms.Merges.{fold_sets}
+use Rattle.resin_eval_nested.specs.Under.meaning_forms.Programs.{evals}
 use Rattle.resin_eval_nested.proofs.Arms.{does_given}
 use Rattle.resin_eval_nested.proofs.Arguments.{empty_list, opened_rest}
 use Rattle.resin_eval_nested.proofs.Exits.{does_is}
 use Rattle.resin_eval_merges.proofs.Exits.{does_unfolded}
-use Rattle.resin_step_functions.specs.Under.label.Sets.{NumberSet}
+use Rattle.resin_eval_nested.specs.Under.label.Sets.{NumberSet}
 use Rattle.std.proofs.Common.{List, ap}
 use Rattle.resin_eval_merges.proofs.merges.Merger.fold_sets.Goals as goal
 

@@ -1,4 +1,4 @@
-use Rattle.resin_step_functions.specs.Under.meaning_forms.Programs.{evals}
+use Rattle.resin_eval_nested.specs.Under.meaning_forms.Programs.{evals}
 use Rattle.resin_eval_merges.proofs.Exits.{does_unfolded}
 use Rattle.resin_eval_merges.proofs.merges.Merger.folded.Goals as goal
 

@@ -1,5 +1,5 @@
 use Rattle.resin_eval_nested.proofs.Arms.{does_no, does_yes}
-use Rattle.resin_step_functions.proofs.meaning_lemmas.Composition.{does_exit, does_give, does_next}
+use Rattle.resin_eval_nested.proofs.meaning_lemmas.Composition.{does_exit, does_give, does_next}
 use Rattle.std.proofs.Common.{sym, ◌∙◌}
 use Rattle.resin_eval_merges.proofs.merges.Merger.merge.Goals as goal
 

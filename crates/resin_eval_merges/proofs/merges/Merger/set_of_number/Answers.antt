@@ -1,10 +1,10 @@
-use Rattle.resin_step_functions.specs.Under.meaning_forms.Operators.{set_of_number}
-use Rattle.resin_step_functions.specs.Under.meaning_forms.Programs.{evals}
+use Rattle.resin_eval_nested.specs.Under.meaning_forms.Operators.{set_of_number}
+use Rattle.resin_eval_nested.specs.Under.meaning_forms.Programs.{evals}
 use Rattle.resin_eval_merges.proofs.Arguments.{number_of_other}
 use Rattle.resin_eval_nested.proofs.Arms.{does_given, does_none}
 use Rattle.resin_eval_nested.proofs.Exits.{does_is}
-use Rattle.resin_step_functions.specs.Under.value.Seen.{tree_of}
-use Rattle.resin_step_functions.specs.Under.value.declared.value.Value.{Value}
+use Rattle.resin_eval_nested.specs.Under.value.Seen.{tree_of}
+use Rattle.resin_eval_nested.specs.Under.value.declared.value.Value.{Value}
 use Rattle.std.proofs.Common.{ap}
 use Rattle.resin_eval_merges.proofs.merges.Merger.set_of_number.Goals as goal
 

@@ -1,11 +1,11 @@
-use Rattle.resin_step_functions.specs.Under.meaning_forms.Operators.{unary}
-use Rattle.resin_step_functions.specs.Under.meaning_forms.Programs.{evals}
+use Rattle.resin_eval_nested.specs.Under.meaning_forms.Operators.{unary}
+use Rattle.resin_eval_nested.specs.Under.meaning_forms.Programs.{evals}
 use Rattle.resin_eval_nested.proofs.Arms.{does_given, does_settled}
 use Rattle.resin_eval_nested.proofs.Exits.{does_is}
-use Rattle.resin_step_functions.proofs.meaning_lemmas.Composition.{does_act, does_exit, does_next}
-use Rattle.resin_step_functions.proofs.step_parts_lemmas.Answered.{gives_or}
+use Rattle.resin_eval_nested.proofs.meaning_lemmas.Composition.{does_act, does_exit, does_next}
+use Rattle.resin_eval_nested.proofs.step_parts_lemmas.Answered.{gives_or}
 use Rattle.resin_tree.specs.declared.expression.Unary.{Unary}
-use Rattle.resin_step_functions.specs.Under.value.declared.value.Value.TheVariants.{Bool as Boolean}
+use Rattle.resin_eval_nested.specs.Under.value.declared.value.Value.TheVariants.{Bool as Boolean}
 use Rattle.std.proofs.Common.{ap}
 use Rattle.std.specs.Prelude.{not}
 use Rattle.resin_eval_merges.proofs.merges.Merger.unary.Goals as goal
