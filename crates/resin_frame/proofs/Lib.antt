@@ -1,4 +1,6 @@
+pub mod Numbers
 pub mod Composition
 pub mod Keepers
-pub mod Numbers
+pub mod Frames
+pub mod Apart
 pub mod framed_forms

@@ -1,6 +1,6 @@
 -- What programs touch: a program does the same from every store that agrees with its own on the names of its keeper calls, whatever the number of
 -- the request, and leaves every other name as it was (this project).
-use Rattle.std.specs.Prelude.{◌≡◌, ℕ, ◌+◌, ◌≤◌, ◌<◌, Bool, true, false, List, [], ◌∷◌, length, Option, Result, Err, ◌⊎◌, ⊤}
+use Rattle.std.specs.Prelude.{◌≡◌, ℕ, ◌+◌, ◌≤◌, ◌<◌, Bool, true, false, List, [], ◌∷◌, length, Option, None, Err, ◌⊎◌, ⊤}
 use Rattle.std.specs.FinMap.{get}
 use Rattle.resin_meaning_forms.specs.Under.base.Causes.{is_listed, last_count}
 use Rattle.resin_meaning_forms.specs.Under.scalar.declared.faults.ScriptFault.TheVariants.{FuelSpent}
@@ -28,7 +28,7 @@ AgreeOn (c ∷ cs) s t = SameAt c.on_tables c.name s t × AgreeOn cs s t
 pub record MayChange (c : KeeperCall) (tables : Bool) (name : List ℕ) : Type 0 where
   pub changes : c.changes ≡ true
   pub kind : c.on_tables ≡ tables
-  pub name : c.name ≡ name
+  pub names : c.name ≡ name
 
 -- one of these calls may
 abbrev pub IsChanged : List KeeperCall → Bool → List ℕ → Type 0
@@ -37,7 +37,12 @@ IsChanged (c ∷ cs) tables name = MayChange c tables name ⊎ IsChanged cs tabl
 
 -- every name that these calls don't change stands as it did
 abbrev pub KeepsTheRest : List KeeperCall → Store → Store → Type 0
-KeepsTheRest cs s s' = (tables : Bool) (name : List ℕ) → (IsChanged cs tables name → ⊥) → SameAt tables name s' s
+KeepsTheRest cs s s' = (tables : Bool) (name : List ℕ) → (IsChanged cs tables name → ⊥) → SameAt tables name s s'
+
+-- no name that the second calls touch is changed by one of the first
+abbrev pub Spare : List KeeperCall → List KeeperCall → Type 0
+Spare cs [] = ⊤
+Spare cs (d ∷ ds) = (IsChanged cs d.on_tables d.name → ⊥) × Spare cs ds
 
 -- where the first two stores have the same, the other two have the same
 abbrev pub KeepAgreeing : Store → Store → Store → Store → Type 0
@@ -53,10 +58,9 @@ AreOfOwn own (c ∷ cs) = IsOfOwn own c × AreOfOwn own cs
 
 -- ---- failing calls and their numbers
 
--- counted from these numbers on, the same of these calls fail
-abbrev pub FailAlike : List ℕ → ℕ → List ℕ → ℕ → List KeeperCall → Type 0
-FailAlike K made K' made' [] = ⊤
-FailAlike K made K' made' (c ∷ cs) = (is_listed K (made + 1) ≡ is_listed K' (made' + 1)) × FailAlike K (made + 1) K' (made' + 1) cs
+-- of so many calls, counted from these numbers on, the same fail
+abbrev pub FailAlike : List ℕ → ℕ → List ℕ → ℕ → ℕ → Type 0
+FailAlike K made K' made' n = (i : ℕ) → i < n → is_listed K (made + i + 1) ≡ is_listed K' (made' + i + 1)
 
 -- A run needed no number of a keeper call beyond the last: its calls have numbers, and where they took the last one, it didn't end for want of fuel,
 -- as a call without a number does.
@@ -81,7 +85,7 @@ renumbered number m = record m { request = number; stage = record m.stage { mail
 pub record Near {A : Type 0} (number : ℕ) (failing failing' : List ℕ) (at at' : Whole) (o : Out A) : Type 0 where
   pub state : at'.state ≡ renumbered number at.state
   pub agree : AgreeOn o.calls at.store at'.store
-  pub fail : FailAlike failing at.made failing' at'.made o.calls
+  pub fail : FailAlike failing at.made failing' at'.made (length o.calls)
   pub numbers : HaveNumbers at.made at'.made o
 
 -- It ends alike: in the same way and state but for the number, after the same calls, and where the stores that were there had the same, those that

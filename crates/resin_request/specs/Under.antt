@@ -1,6 +1,7 @@
 -- What this crate stands on, passed on to the crates above, which list this one alone.
 pub use Rattle.resin_interp.specs.Under.base
 pub use Rattle.resin_inputs.specs.Under.bytes
+pub use Rattle.resin_frame.specs as frame
 pub use Rattle.resin_http.specs as http
 pub use Rattle.resin_inputs.specs as inputs
 pub use Rattle.resin_interp.specs.Under.journal

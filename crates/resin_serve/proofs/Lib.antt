@@ -15,6 +15,7 @@ pub mod Completing
 pub mod Cuttings
 pub mod Lives
 pub mod Alike
+pub mod Exchanging
 pub mod Marking
 pub mod Telling
 pub mod Recording

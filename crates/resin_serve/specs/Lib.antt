@@ -16,4 +16,5 @@ pub mod Samples
 pub mod Wholes
 pub mod Recorded
 pub mod Cutting
+pub mod Exchange
 pub mod Waiting_streams

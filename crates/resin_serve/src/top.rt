@@ -13,6 +13,7 @@ ghost use Rattle.resin_serve.specs.Whole_run.{RunsFrom, ReadCause, given_of_stat
 ghost use Rattle.resin_serve.specs.Words.{task_of};
 ghost use Rattle.resin_serve.specs.Audits.{Audits, EndsAudit, EndsRun, OnSilent, CompletesAudit};
 ghost use Rattle.resin_serve.specs.Samples.{Samples};
+ghost use Rattle.resin_serve.specs.Exchange.{Exchanges};
 ghost use Rattle.resin_serve.specs.Headline.{Completes, Calm};
 ghost use Rattle.resin_serve.specs.declared.status.Status.TheVariants.{Usage, AuditRefused};
 
@@ -71,6 +72,9 @@ pub fn serve<S: Source, O: Sink, L: Sink, M: Sink, F: Files, T: Tables>(
         × (trace.new ≡ trace.old) × (log.new ≡ log.old) × (mail.new ≡ mail.old) × (files.new ≡ files.old) × (tables.new ≡ tables.old)
         × (result.made ≡ 0) × (result.failed ≡ []) }
     ensures refused { result.status ≡ AuditRefused → task_of (map string_bytes words.now) ≡ Some Task.Audit }
+
+    // Neighbouring answers of the run's meaning that leave each other's files and tables alone may come in either order.
+    ensures exchange { (logging : Logging) (fuel : ℕ) → task_of (map string_bytes words.now) ≡ Some (Task.Run logging fuel) → Exchanges (meaning logging fuel) }
 
     // The failed calls are those that the keepers tell of, in order.
     ensures kept { Kept (keepers 0 [] (F.answers files.old) (F.faults files.old) (T.answers tables.old) (T.faults tables.old))

@@ -2,6 +2,7 @@
 ghost use Rattle.std.specs.Prelude.{◌≡◌, ◌≤◌, List, ℕ, IfOk};
 ghost use Rattle.resin_request.specs.Under.base.Numbering.{AreNumbered};
 ghost use Rattle.resin_request.specs.Under.meaning.Programs.{KeeperCall};
+ghost use Rattle.resin_site.specs.Framing.{IsFramed};
 ghost use Rattle.resin_site.specs.Isolation.{IsIsolated};
 ghost use Rattle.resin_site.specs.Keeping.{Later, Passes, Tells, Blames, answers, faults, store_of};
 ghost use Rattle.resin_site.specs.Laws.{IsLawful};
@@ -57,6 +58,10 @@ pub fn serve_one<F: Files, T: Tables>(
 
     // No count of faults falls.
     ensures counted { (F.faults files.old ≤ F.faults files.new) × (T.faults tables.old ≤ T.faults tables.new) }
+
+    // The frame: from every store that agrees on the names that the request's calls touch it means the same, where the same of its calls fail and they
+    // have numbers, and it leaves every name that they don't change as it was.
+    ensures framed { IsFramed site.old calls.old.made number r.now }
 
     // Isolation: the meaning of the request depends on its own session and on what all share, and leaves every other session as it was.
     ensures isolated { IsIsolated site.old calls.old.made number r.now }

@@ -1,4 +1,4 @@
--- The programs of Assignments are blind to the sessions of others.
+-- The programs of Assignments are framed.
 use Rattle.std.specs.Prelude.{Option}
 use Rattle.std.specs.Prelude.{ℕ, pos, ◌+ℤ◌, ◌-ℤ◌, List, if◌then◌else◌}
 use Rattle.resin_meaning_forms.specs.Under.label.Sets.{empty as no_labels}

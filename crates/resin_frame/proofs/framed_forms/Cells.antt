@@ -1,4 +1,4 @@
--- The programs of Cells are blind to the sessions of others.
+-- The programs of Cells are framed.
 use Rattle.std.specs.Prelude.{Option}
 use Rattle.std.specs.Prelude.{ℕ, nat_lt, List, [], ◌∷◌, ◌++◌, length, map, codes, if◌then◌else◌}
 use Rattle.resin_meaning_forms.specs.Under.label.Sets.{NumberSet, empty as no_labels}

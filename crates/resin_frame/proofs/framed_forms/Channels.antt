@@ -1,4 +1,4 @@
--- The programs of Channels are blind to the sessions of others.
+-- The programs of Channels are framed.
 use Rattle.std.specs.Prelude.{ℕ, ℤ, pos, negsuc, ◌==◌, ◌||◌, ◌&&◌, not, nat_le, List, [], ◌∷◌, ◌++◌, length, Bool, true, false, if◌then◌else◌, Option, None, Some, codes}
 use Rattle.std.specs.List.{list_any}
 use Rattle.resin_meaning_forms.specs.Under.label.Sets.{empty as no_labels}

@@ -1,4 +1,4 @@
--- The programs of Expressions are blind to the sessions of others.
+-- The programs of Expressions are framed.
 use Rattle.std.specs.Prelude.{ℕ}
 use Rattle.std.specs.Prelude.{List, [], ◌∷◌, ◌++◌, Bool, true, false, not, if◌then◌else◌, Option, None, Some}
 use Rattle.resin_meaning_forms.specs.Under.lstr.Texts.{Text as LabelledText}

@@ -1,4 +1,4 @@
--- The programs of Files are blind to the sessions of others.
+-- The programs of Files are framed.
 use Rattle.std.specs.Prelude.{ℕ, ℤ, pos, ◌+◌, ◌==◌, ◌&&◌, ◌||◌, nat_le, List, [], ◌∷◌, ◌++◌, length, zip, Bool, true, false, if◌then◌else◌, Option, None, Some}
 use Rattle.std.specs.Ordering.{int_eq}
 use Rattle.resin_meaning_forms.specs.Under.bytes.Paths.{is_lawful_path}

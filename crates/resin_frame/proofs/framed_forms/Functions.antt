@@ -1,4 +1,4 @@
--- The programs of Functions are blind to the sessions of others.
+-- The programs of Functions are framed.
 use Rattle.std.specs.Prelude.{ℕ, ◌+◌, ◌==◌, List, [], ◌∷◌, ◌++◌, length, filter, Bool, true, false, if◌then◌else◌, Option, None, Some, Ok}
 use Rattle.resin_meaning_forms.specs.Under.label.Sets.{NumberSet, empty as no_labels, numbers, set_of, insert, remove}
 use Rattle.resin_meaning_forms.specs.Under.lstr.Texts.{Text as LabelledText, marked, unmarked, policies_in_order, bytes_of}

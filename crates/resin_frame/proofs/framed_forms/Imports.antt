@@ -1,4 +1,4 @@
--- The programs of Imports are blind to the sessions of others.
+-- The programs of Imports are framed.
 use Rattle.std.specs.Prelude.{ℕ, pos, ◌&&◌, List, Bool, true, false, if◌then◌else◌, Option, None, Some}
 use Rattle.resin_meaning_forms.specs.Under.label.Sets.{empty as no_labels}
 use Rattle.resin_meaning_forms.specs.Under.lstr.Texts.{Text as LabelledText, bytes_of}

@@ -1,4 +1,4 @@
--- The programs of Inputs are blind to the sessions of others.
+-- The programs of Inputs are framed.
 use Rattle.std.specs.Prelude.{ℕ, ℤ, List, [], ◌∷◌, codes, Option, Some}
 use Rattle.std.specs.Fmt.{signed_decimal}
 use Rattle.resin_meaning_forms.specs.Under.lstr.Texts.{Text as LabelledText}

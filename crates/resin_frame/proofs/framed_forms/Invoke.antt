@@ -1,4 +1,4 @@
--- The programs of Invoke are blind to the sessions of others.
+-- The programs of Invoke are framed.
 use Rattle.std.specs.Prelude.{ℕ, pos, negsuc, true, false, List, [], ◌∷◌, codes, Option, None, Some, Result, Ok}
 use Rattle.std.specs.Option.{option_map, option_and_then}
 use Rattle.resin_meaning_forms.specs.Under.label.Sets.{empty as no_labels}

@@ -1,4 +1,4 @@
--- The programs of Keeping are blind to the sessions of others.
+-- The programs of Keeping are framed.
 use Rattle.std.specs.Prelude.{ℕ, Bool, ◌==◌, ◌&&◌, nat_lt, not, slice_index_or, List, [], ◌∷◌, ◌++◌, length, map, zip, codes, Option, None, Some, if◌then◌else◌}
 use Rattle.std.specs.Option.{option_map, option_and_then}
 use Rattle.resin_meaning_forms.specs.Under.label.Sets.{NumberSet, numbers, same, empty as no_labels, set_of as labels_of}

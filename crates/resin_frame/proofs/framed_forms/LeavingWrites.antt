@@ -1,4 +1,4 @@
--- The programs of LeavingWrites are blind to the sessions of others.
+-- The programs of LeavingWrites are framed.
 use Rattle.std.specs.Prelude.{Option}
 use Rattle.std.specs.Prelude.{ℕ, List, [], ◌∷◌, length, unwrap_or, Result, Ok, Err}
 use Rattle.resin_meaning_forms.specs.Under.lstr.Texts.{Text, policies_in_order, first_run}

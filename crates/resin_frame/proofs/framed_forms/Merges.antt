@@ -1,4 +1,4 @@
--- The programs of Merges are blind to the sessions of others.
+-- The programs of Merges are framed.
 use Rattle.std.specs.Prelude.{Option}
 use Rattle.std.specs.Prelude.{ℕ, List, [], ◌∷◌, map, Bool, true, false, ◌&&◌, if◌then◌else◌, codes}
 use Rattle.std.specs.List.{list_all}

@@ -1,4 +1,4 @@
--- The programs of Names are blind to the sessions of others.
+-- The programs of Names are framed.
 use Rattle.std.specs.Prelude.{ℕ, Bool, List, [], ◌∷◌, Option, None, Some, is_some, if◌then◌else◌, codes}
 use Rattle.std.specs.Option.{option_map}
 use Rattle.resin_meaning_forms.specs.Under.builtin.Under.scan.Words.{spells}

@@ -1,4 +1,4 @@
--- The programs of Operands are blind to the sessions of others.
+-- The programs of Operands are framed.
 use Rattle.std.specs.Prelude.{Option}
 use Rattle.std.specs.Prelude.{ℕ, Bool, true, false, List}
 use Rattle.resin_meaning_forms.specs.Under.value.declared.key.Key.{Key}

@@ -1,4 +1,4 @@
--- The programs of Operators are blind to the sessions of others.
+-- The programs of Operators are framed.
 use Rattle.std.specs.Prelude.{Option}
 use Rattle.std.specs.Prelude.{ℕ, ℤ, pos, negsuc, ◌&&◌, ◌-ℤ◌, nat_le, List, ◌++◌, length, Bool, false, not, if◌then◌else◌, Result, Ok, Err}
 use Rattle.std.specs.Option.{option_map_or}

@@ -1,4 +1,4 @@
--- The programs of Parts are blind to the sessions of others.
+-- The programs of Parts are framed.
 use Rattle.std.specs.Prelude.{Option}
 use Rattle.std.specs.Prelude.{ℕ, ◌/◌, List, [], ◌∷◌, length, Result, Ok, Err}
 use Rattle.resin_meaning_forms.specs.Under.scalar.declared.faults.CallStop.{CallStop}

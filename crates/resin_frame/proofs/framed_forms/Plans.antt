@@ -1,4 +1,4 @@
--- The programs of Plans are blind to the sessions of others: a plan makes keeper calls on tables alone.
+-- The programs of Plans are framed: a plan makes keeper calls on tables alone.
 use Rattle.std.specs.Prelude.{ℕ, Option, List, Result, not}
 use Rattle.std.specs.FinMap.{contains_key}
 use Rattle.resin_meaning_forms.specs.Under.base.TableStore.{columns_of, rows_of, next_number, after_create, after_insert, can_update, after_update, has_row, after_delete}
@@ -11,15 +11,15 @@ use Rattle.resin_meaning_forms.specs.Under.meaning_tables.Under.sql_more.Plans.{
 use Rattle.resin_meaning_forms.specs.Under.meaning_tables.Under.sql_more.declared.answer.MoreAnswer.{MoreAnswer}
 use Rattle.resin_meaning_forms.specs.Under.meaning_tables.Plans.{asked, carried_out, paid_for, ticks_left, carried_with_ticks}
 use Rattle.resin_frame.specs.Frames.{IsFramed}
-use Rattle.resin_frame.proofs.Frames.{framed_act, framed_bind, framed_keep, seen_tables, framing}
+use Rattle.resin_frame.proofs.Frames.{framed_bind, framed_create, framed_columns, framed_rows, framed_insert, framed_update, framed_delete, framing}
 
 pub asked_framed : {own : Option (List ℕ)} (call : TableCall) → IsFramed {A = Answer call} own (asked call)
-asked_framed (MakeTable name columns) = framed_keep _ _ (seen_tables (λ s. (not (contains_key s name), after_create s name columns)))
-asked_framed (AskColumns name) = framed_keep _ _ (seen_tables (λ s. (columns_of s name, s)))
-asked_framed (AskRows name) = framed_keep _ _ (seen_tables (λ s. (rows_of s name, s)))
-asked_framed (AddRow name cells) = framed_keep _ _ (seen_tables (λ s. (next_number s name cells, after_insert s name cells)))
-asked_framed (SetRow name number cells) = framed_keep _ _ (seen_tables (λ s. (can_update s name number cells, after_update s name number cells)))
-asked_framed (TakeRow name number) = framed_keep _ _ (seen_tables (λ s. (has_row s name number, after_delete s name number)))
+asked_framed (MakeTable name columns) = framed_create name columns
+asked_framed (AskColumns name) = framed_columns name
+asked_framed (AskRows name) = framed_rows name
+asked_framed (AddRow name cells) = framed_insert name cells
+asked_framed (SetRow name number cells) = framed_update name number cells
+asked_framed (TakeRow name number) = framed_delete name number
 
 pub carried_out_framed : {own : Option (List ℕ)} {A : Type 0} (p : Steps A) → IsFramed {A = A} own (carried_out p)
 carried_out_framed (Done end) = search framing depth 12
@@ -33,4 +33,4 @@ paid_for_framed Costs = search framing depth 12
 
 pub carried_with_ticks_framed : {own : Option (List ℕ)} (plan : ℕ → MorePlan) → IsFramed {A = (Result MoreAnswer SqlRefusal)} own (carried_with_ticks plan)
 carried_with_ticks_framed plan =
-    framed_bind _ _ (framed_act ticks_left) (λ left. framed_bind _ _ (carried_out_framed (plan left)) (λ e. paid_for_framed e))
+    framed_bind _ _ (search framing) (λ left. framed_bind _ _ (carried_out_framed (plan left)) (λ e. paid_for_framed e))

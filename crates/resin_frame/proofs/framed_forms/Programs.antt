@@ -1,5 +1,6 @@
--- The programs of Programs are blind to the sessions of others.
+-- The programs of Programs are framed.
 use Rattle.std.specs.Prelude.{Option}
+use Rattle.std.proofs.Common.{refl}
 use Rattle.std.specs.Prelude.{ℕ, zero, suc, List, Result, Ok, Err}
 use Rattle.resin_meaning_forms.specs.Under.scalar.declared.faults.ScriptFault.TheVariants.{DepthSpent}
 use Rattle.resin_meaning_forms.specs.Under.value.declared.value.Value.{Value}
@@ -40,7 +41,7 @@ evals_framed {own = own} (suc room) = let ih = evals_framed {own = own} room in 
 }
 
 pub program_framed : {own : Option (List ℕ)} (p : Program) → IsFramed {A = Flow} own (program p)
-program_framed p = framed_then (file (evals most_open) p) (λ r. ended (program_end r)) (file_framed (evals most_open) p (evals_framed most_open)) (λ r. framed_ended (program_end r))
+program_framed p = framed_then (file (evals most_open) p) (λ r. ended (program_end r)) (record { passes = λ line failing at. refl }) (file_framed (evals most_open) p (evals_framed most_open)) (λ r. framed_ended (program_end r))
 
 pub function_call_framed : {own : Option (List ℕ)} (name : List ℕ) (vs : List Value) → IsFramed {A = Value} own (function_call name vs)
 function_call_framed name vs = search (framing, call_named_framed, evals_framed) depth 12

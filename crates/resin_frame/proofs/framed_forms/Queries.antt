@@ -1,4 +1,4 @@
--- The programs of Queries are blind to the sessions of others.
+-- The programs of Queries are framed.
 use Rattle.std.specs.Prelude.{ℕ, pos, List, [], ◌∷◌, Option, None, Some, Result, Ok, Err}
 use Rattle.resin_meaning_forms.specs.Under.array_fn.Filled.{added_at}
 use Rattle.resin_meaning_forms.specs.Under.label.Sets.{empty as no_labels}

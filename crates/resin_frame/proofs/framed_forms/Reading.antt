@@ -1,4 +1,4 @@
--- The programs of Reading are blind to the sessions of others.
+-- The programs of Reading are framed.
 use Rattle.std.specs.Prelude.{Option}
 use Rattle.std.specs.Prelude.{ℕ, List, [], ◌∷◌, codes}
 use Rattle.resin_meaning_forms.specs.Under.lstr.Texts.{Text as LabelledText}

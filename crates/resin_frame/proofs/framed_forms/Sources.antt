@@ -1,4 +1,4 @@
--- The programs of Sources are blind to the sessions of others.
+-- The programs of Sources are framed.
 use Rattle.std.specs.Prelude.{List, [], ◌∷◌, ℕ, if◌then◌else◌, Option, None, Some, Result, Ok, Err}
 use Rattle.std.specs.List.{filter_map}
 use Rattle.resin_meaning_forms.specs.Under.scalar.declared.faults.ScriptFault.TheVariants.{Redeclared, Syntax, TooDeep}

@@ -1,4 +1,4 @@
--- The programs of Statements are blind to the sessions of others.
+-- The programs of Statements are framed.
 use Rattle.std.specs.Prelude.{ℕ, zero, suc, List, [], ◌∷◌, Bool, true, if◌then◌else◌, Option, None, Some, Result, Ok, Err}
 use Rattle.std.specs.List.{list_any}
 use Rattle.resin_meaning_forms.specs.Under.label.Sets.{empty as no_labels}

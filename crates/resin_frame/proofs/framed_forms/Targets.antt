@@ -1,4 +1,4 @@
--- The programs of Targets are blind to the sessions of others.
+-- The programs of Targets are framed.
 use Rattle.std.specs.Prelude.{Option, ℕ}
 use Rattle.std.specs.Prelude.{List, [], ◌∷◌}
 use Rattle.resin_meaning_forms.specs.Under.tree.declared.expression.PathStep.{PathStep, PathStep-F, out-PathStep}

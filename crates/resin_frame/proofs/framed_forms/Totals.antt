@@ -1,4 +1,4 @@
--- The programs of Totals are blind to the sessions of others.
+-- The programs of Totals are framed.
 use Rattle.std.specs.Prelude.{Option}
 use Rattle.std.specs.Prelude.{ℕ, List, [], ◌∷◌, map, Some, Result, Ok, Err}
 use Rattle.resin_meaning_forms.specs.Under.array_fn.Filled.{added_at}

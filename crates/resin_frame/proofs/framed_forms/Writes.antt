@@ -1,4 +1,4 @@
--- The programs of Writes are blind to the sessions of others.
+-- The programs of Writes are framed.
 use Rattle.std.specs.Prelude.{ℕ, List, [], ◌∷◌, ◌++◌, codes, length, ◌==◌, Option, None, Some, if◌then◌else◌, ◌≡◌, decimal}
 use Rattle.resin_meaning_forms.specs.Under.label.Sets.{empty as no_labels}
 use Rattle.resin_meaning_forms.specs.Under.lstr.Texts.{Text as LabelledText, carrying, bytes_of}

@@ -3,6 +3,7 @@ use Rattle.std.specs.String.{string_bytes}
 use Rattle.resin_serve.specs.Whole_run.{given_of_status}
 use Rattle.resin_serve.specs.Audits.{CompletesAudit}
 use Rattle.resin_serve.specs.Headline.{Completes}
+use Rattle.resin_serve.proofs.Exchanging.{exchanges}
 use Rattle.resin_serve.proofs.Ends.{kept_ended, no_task, caused_out, completes_audit, completes_sample}
 use Rattle.resin_serve.proofs.Wording.{sized_sample, sample_alone}
 use Rattle.resin_serve.proofs.top.serve.Goals as goal
@@ -38,3 +39,15 @@ pub returns-in-Some-Sample-clause-shows : goal.returns-in-Some-Sample-clause-sho
 returns-in-Some-Sample-clause-shows g c = λ number f calm.
     subst Completes (sym c.ended-in-Some-Sample.ensures.0)
     (completes_sample c.show_sample.result _ _ _ _ _ c.show_sample.ensures.samples c.show_sample.ensures.cause calm)
+
+pub returns-in-None-clause-exchange : goal.returns-in-None-clause-exchange
+returns-in-None-clause-exchange g c = λ logging fuel f. exchanges logging fuel
+
+pub returns-in-Some-Audit-clause-exchange : goal.returns-in-Some-Audit-clause-exchange
+returns-in-Some-Audit-clause-exchange g c = λ logging fuel f. exchanges logging fuel
+
+pub returns-in-Some-Run-clause-exchange : goal.returns-in-Some-Run-clause-exchange
+returns-in-Some-Run-clause-exchange g c = λ logging fuel f. exchanges logging fuel
+
+pub returns-in-Some-Sample-clause-exchange : goal.returns-in-Some-Sample-clause-exchange
+returns-in-Some-Sample-clause-exchange g c = λ logging fuel f. exchanges logging fuel

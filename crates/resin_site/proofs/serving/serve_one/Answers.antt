@@ -8,6 +8,7 @@ use Rattle.resin_request.specs.Paths.{path_of}
 use Rattle.resin_site.specs.Outcomes.{outcome}
 use Rattle.resin_site.specs.Replies.{is_head}
 use Rattle.resin_site.proofs.Keepers.{passes, blames, counted, made_up, tells, tells_none}
+use Rattle.resin_site.proofs.Framed.{is_framed}
 use Rattle.resin_site.proofs.Isolated.{is_isolated}
 use Rattle.resin_site.proofs.Told.{labelled, as_asked, served_end, served_nothing, lawful_end, ends_end}
 use Rattle.resin_site.proofs.serving.serve_one.Goals as goal
@@ -19,6 +20,9 @@ returns-in_err-path-clause-served g c =
     rw p.1 (λ K later. served_nothing c.args.site.now c.args.number c.args.r.now
     (seen (g.F.Files.stored c.args.files.now) (g.F.Files.faults c.args.files.now) (g.F.Files.answers c.args.files.now))
     (seen (g.T.Tables.stored c.args.tables.now) (g.T.Tables.faults c.args.tables.now) (g.T.Tables.answers c.args.tables.now)) c.args.calls.now K p.0)
+
+pub returns-in_err-path-clause-framed : goal.returns-in_err-path-clause-framed
+returns-in_err-path-clause-framed g c = is_framed c.args.site.now c.args.calls.now.made c.args.number c.args.r.now
 
 pub returns-in_err-path-clause-isolated : goal.returns-in_err-path-clause-isolated
 returns-in_err-path-clause-isolated g c = is_isolated c.args.site.now c.args.calls.now.made c.args.number c.args.r.now
@@ -33,6 +37,9 @@ returns-in_err-inputs-clause-served g c =
     (seen (g.F.Files.stored c.args.files.now) (g.F.Files.faults c.args.files.now) (g.F.Files.answers c.args.files.now))
     (seen (g.T.Tables.stored c.args.tables.now) (g.T.Tables.faults c.args.tables.now) (g.T.Tables.answers c.args.tables.now)) c.args.calls.now K p.0)
 
+pub returns-in_err-inputs-clause-framed : goal.returns-in_err-inputs-clause-framed
+returns-in_err-inputs-clause-framed g c = is_framed c.args.site.now c.args.calls.now.made c.args.number c.args.r.now
+
 pub returns-in_err-inputs-clause-isolated : goal.returns-in_err-inputs-clause-isolated
 returns-in_err-inputs-clause-isolated g c = is_isolated c.args.site.now c.args.calls.now.made c.args.number c.args.r.now
 
@@ -45,6 +52,9 @@ returns-in_err-m-clause-served g c =
     rw p.1 (λ K later. served_nothing c.args.site.now c.args.number c.args.r.now
     (seen (g.F.Files.stored c.args.files.now) (g.F.Files.faults c.args.files.now) (g.F.Files.answers c.args.files.now))
     (seen (g.T.Tables.stored c.args.tables.now) (g.T.Tables.faults c.args.tables.now) (g.T.Tables.answers c.args.tables.now)) c.args.calls.now K p.0)
+
+pub returns-in_err-m-clause-framed : goal.returns-in_err-m-clause-framed
+returns-in_err-m-clause-framed g c = is_framed c.args.site.now c.args.calls.now.made c.args.number c.args.r.now
 
 pub returns-in_err-m-clause-isolated : goal.returns-in_err-m-clause-isolated
 returns-in_err-m-clause-isolated g c = is_isolated c.args.site.now c.args.calls.now.made c.args.number c.args.r.now
@@ -80,6 +90,7 @@ returns g c =
       ends = ends_end (path_of c.args.r.now.target) (is_head c.args.r.now.method) s.new.m u w s.result c.outcome_for.result is c.outcome_for.ensures.memory b;
       blames = blames s.result u w b;
       counted = counted s.result u w b;
+      framed = is_framed c.args.site.now c.args.calls.now.made c.args.number c.args.r.now;
       isolated = is_isolated c.args.site.now c.args.calls.now.made c.args.number c.args.r.now;
       told = ((done s.ensures).goes.calls, tells u w c.requires (done s.ensures).goes);
     }
