@@ -3,21 +3,17 @@ pub use Rattle.resin_builtin.specs.Under.array_fn
 pub use Rattle.resin_meaning_tables.specs.Under.base
 pub use Rattle.resin_builtin.specs as builtin
 pub use Rattle.resin_builtin.specs.Under.bytes
-pub use Rattle.resin_frozen.specs as frozen
 pub use Rattle.resin_guard.specs as guard
 pub use Rattle.resin_target.specs.Under.heap
 pub use Rattle.resin_target.specs.Under.journal
 pub use Rattle.resin_builtin.specs.Under.label
-pub use Rattle.resin_lex.specs as lex
 pub use Rattle.resin_builtin.specs.Under.lstr
 pub use Rattle.resin_target.specs.Under.machine
 pub use Rattle.resin_meaning_tables.specs.Under.meaning
 pub use Rattle.resin_target.specs.Under.ops
-pub use Rattle.resin_program_grammar.specs as program_grammar
 pub use Rattle.resin_builtin.specs.Under.scalar
 pub use Rattle.resin_target.specs.Under.scope
 pub use Rattle.resin_target.specs.Under.stage
-pub use Rattle.resin_shadow.specs as shadow
 pub use Rattle.resin_meaning_tables.specs.Under.store
 pub use Rattle.resin_target.specs as target
 pub use Rattle.resin_builtin.specs.Under.text_fn

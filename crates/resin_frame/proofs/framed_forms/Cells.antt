@@ -19,8 +19,8 @@ use Rattle.resin_meaning_forms.specs.Under.base.declared.stored.StoredCell.{Stor
 use Rattle.resin_meaning_forms.specs.Under.store.Cells.{stored, one_byte}
 use Rattle.resin_meaning_forms.specs.Under.store.Entries.{LabelledEntry, Good, Bad, lift, marks}
 use Rattle.resin_meaning_forms.specs.Under.meaning.Programs.{Prog, give, ◌>>=◌}
-use Rattle.resin_meaning_forms.specs.Under.shadow.Marks.{Marks}
-use Rattle.resin_meaning_forms.specs.Under.shadow.Shadows.{written2}
+use Rattle.resin_shadow.specs.Marks.{Marks}
+use Rattle.resin_shadow.specs.Shadows.{written2}
 use Rattle.resin_meaning_forms.specs.Under.meaning_tables.Under.sql_more.Totals.{is_null}
 use Rattle.resin_meaning_forms.specs.Under.meaning_tables.Under.sql.Labels.{labelled}
 use Rattle.resin_meaning_forms.specs.Under.meaning_tables.Under.sql_words.declared.literals.Literal.{Literal}

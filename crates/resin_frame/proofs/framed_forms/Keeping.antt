@@ -19,11 +19,11 @@ use Rattle.resin_meaning_forms.specs.Under.machine.Steps.{charge}
 use Rattle.resin_meaning_forms.specs.Under.machine.Objects.{is_object, make_object, set_field}
 use Rattle.resin_meaning_forms.specs.Under.machine.Leaving.{class_name_of}
 use Rattle.resin_meaning_forms.specs.Under.meaning.Programs.{Prog, give, act, ◌>>=◌}
-use Rattle.resin_meaning_forms.specs.Under.frozen.Policies.{frozen}
-use Rattle.resin_meaning_forms.specs.Under.frozen.Reading.{Said, said}
-use Rattle.resin_meaning_forms.specs.Under.shadow.Marks.{TextSet, Marks, policies}
-use Rattle.resin_meaning_forms.specs.Under.shadow.Shadows.{places}
-use Rattle.resin_meaning_forms.specs.Under.shadow.Runs.{set_of}
+use Rattle.resin_frozen.specs.Policies.{frozen}
+use Rattle.resin_frozen.specs.Reading.{Said, said}
+use Rattle.resin_shadow.specs.Marks.{TextSet, Marks, policies}
+use Rattle.resin_shadow.specs.Shadows.{places}
+use Rattle.resin_shadow.specs.Runs.{set_of}
 use Rattle.resin_meaning_forms.specs.Under.store.Entries.{Marked, LabelledEntry, Good, Bad, marks}
 use Rattle.resin_meaning_forms.specs.Parts.{faulted, looked, ◌>>◌}
 use Rattle.resin_meaning_forms.specs.Keeping.{frozen_policy, each_of, frozen_set, frozen_marks, or_not_storable, freeze_text, is_able, policy_class, name_in, set_fields, make_policy, make_lost, remade, thaw_said, thaw_policy, thaw_policies, labels_for, labelled, thaw_marked, thaw_sets, thaw_short, size, thaw_entry}

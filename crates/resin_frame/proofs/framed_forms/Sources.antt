@@ -2,10 +2,10 @@
 use Rattle.std.specs.Prelude.{List, [], ◌∷◌, ℕ, if◌then◌else◌, Option, None, Some, Result, Ok, Err}
 use Rattle.std.specs.List.{filter_map}
 use Rattle.resin_meaning_forms.specs.Under.scalar.declared.faults.ScriptFault.TheVariants.{Redeclared, Syntax, TooDeep}
-use Rattle.resin_meaning_forms.specs.Under.lex.declared.token.ParseFault.{ParseFault}
-use Rattle.resin_meaning_forms.specs.Under.lex.declared.token.ParseFault.TheVariants as fault
-use Rattle.resin_meaning_forms.specs.Under.lex.Lines.{line_of}
-use Rattle.resin_meaning_forms.specs.Under.program_grammar.Parsed.{parsed}
+use Rattle.resin_lex.specs.declared.token.ParseFault.{ParseFault}
+use Rattle.resin_lex.specs.declared.token.ParseFault.TheVariants as fault
+use Rattle.resin_lex.specs.Lines.{line_of}
+use Rattle.resin_program_grammar.specs.Parsed.{parsed}
 use Rattle.resin_meaning_forms.specs.Under.tree.declared.declaration.Function.{Function}
 use Rattle.resin_meaning_forms.specs.Under.tree.declared.declaration.Item.{Item}
 use Rattle.resin_meaning_forms.specs.Under.tree.declared.declaration.Item.TheVariants as item
