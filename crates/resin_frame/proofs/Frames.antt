@@ -4,14 +4,15 @@ use Rattle.std.specs.Str.{bytes_eq}
 use Rattle.std.proofs.lemmas.Bool.Decides.{Decides-eqb}
 use Rattle.std.proofs.lemmas.Slice.Eq.{starts_is, bytes_eq-Decides}
 use Rattle.resin_meaning_forms.specs.Under.bytes.Paths.{is_lawful_path, has_segments}
+use Rattle.resin_meaning_forms.specs.Under.machine.State.{State}
 use Rattle.resin_meaning_forms.specs.Under.tree.declared.expression.Expr.{Expr}
 use Rattle.resin_meaning_forms.specs.Under.tree.declared.statement.Stmt.{Stmt}
-use Rattle.resin_meaning_forms.specs.Parts.{Evals}
+use Rattle.resin_meaning_forms.specs.Parts.{Evals, looked}
 use Rattle.resin_meaning_forms.specs.Sessions.{session_path, is_of_session, is_of_other}
 use Rattle.resin_frame.specs.Frames.{IsFramed}
 pub use Rattle.resin_frame.proofs.Composition.{PassesSpent, framed_ended, framed_act, framed_then, framed_bind, framed_tried, framed_within, framed_if, framed_where, framed_by_state, framed_by_ticks}
 pub use Rattle.resin_frame.proofs.Keepers.{framed_read, framed_write, framed_remove, framed_exists, framed_create, framed_columns, framed_rows, framed_insert, framed_update, framed_delete}
-use Rattle.resin_frame.proofs.Numbers.{numberless}
+use Rattle.resin_frame.proofs.Numbers.{ReadsBlind, looked_numberless, numberless}
 
 true_false : true ≡ false → ⊥
 true_false e = cc
@@ -40,6 +41,10 @@ pub own_seen : (name : List ℕ) → is_of_other (Some name) (session_path name)
 own_seen name = ap not ((bytes_eq-Decides (session_path name) (session_path name)).1 refl)
 
 -- ---- the rules
+
+-- something that is read off the state, where `search` doesn't see what
+pub framed_looked : {own : Option (List ℕ)} {A : Type 0} (read : State → A) → ReadsBlind read → IsFramed own (looked read)
+framed_looked read h = framed_act _ (looked_numberless read h)
 
 pub record FramedEvals (own : Option (List ℕ)) (ev : Evals) : Type 0 where
   pub expr : (e : Expr) → IsFramed own (ev.expr e)

@@ -11,7 +11,8 @@ use Rattle.resin_meaning_forms.specs.Under.target.Reads.{at_index, at_property}
 use Rattle.resin_meaning_forms.specs.Parts.{computed, looked}
 use Rattle.resin_meaning_forms.specs.Operands.{is_nothing, keyed, index_of, soft_index_of, property_of}
 use Rattle.resin_frame.specs.Frames.{IsFramed}
-use Rattle.resin_frame.proofs.Frames.{framing}
+use Rattle.resin_frame.proofs.Frames.{framed_looked, framing}
+use Rattle.resin_frame.proofs.Numbers.{at_property_numberless}
 
 pub keyed_framed : {own : Option (List ℕ)} (k : Value) → IsFramed {A = Key} own (keyed k)
 keyed_framed k = search framing depth 12
@@ -23,4 +24,4 @@ pub soft_index_of_framed : {own : Option (List ℕ)} (v : Value) (k : Value) →
 soft_index_of_framed v k = search framing depth 12
 
 pub property_of_framed : {own : Option (List ℕ)} (v : Value) (p : List ℕ) → IsFramed {A = Value} own (property_of v p)
-property_of_framed v p = search framing depth 12
+property_of_framed v p = framed_looked (at_property p v) (at_property_numberless p v)

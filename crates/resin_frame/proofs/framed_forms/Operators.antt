@@ -40,7 +40,8 @@ use Rattle.resin_meaning_forms.specs.Parts.{Evals, computed, ruled, charge_text,
 use Rattle.resin_meaning_forms.specs.Merges.{merge, folded}
 use Rattle.resin_meaning_forms.specs.Operators.{own_set, set_of_number, labelled, too_long, concatenated, calculated, combined_by, combined, signed, negated, applied, unary, compare_fault, or_fault, or_spent, with_ticks, equal, identical, order, sign_of, compared_by, compared, fits, instance_of}
 use Rattle.resin_frame.specs.Frames.{IsFramed}
-use Rattle.resin_frame.proofs.Frames.{FramedEvals, framing}
+use Rattle.resin_frame.proofs.Frames.{framed_bind, framed_looked, FramedEvals, framing}
+use Rattle.resin_frame.proofs.Numbers.{fits_numberless}
 use Rattle.resin_frame.proofs.framed_forms.Merges.{folded_framed, merge_framed}
 use Rattle.resin_frame.proofs.framed_forms.Parts.{charge_both_framed, charge_text_framed, given_framed}
 
@@ -103,4 +104,5 @@ pub compared_framed : {own : Option (List ℕ)} (op : Comparison) (x : Value) (y
 compared_framed op x y = search (framing, charge_both_framed, compared_by_framed) depth 12
 
 pub instance_of_framed : {own : Option (List ℕ)} (name : List ℕ) (x : Value) → IsFramed {A = Value} own (instance_of name x)
-instance_of_framed name x = search (framing, charge_text_framed) depth 12
+instance_of_framed name x =
+    framed_bind _ _ (charge_text_framed (tree_of x)) (λ u. framed_bind _ _ (framed_looked (fits name (tree_of x)) (fits_numberless name (tree_of x))) (λ b. search framing))

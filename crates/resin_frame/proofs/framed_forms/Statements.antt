@@ -41,7 +41,8 @@ use Rattle.resin_meaning_forms.specs.Writes.{echo, inline}
 use Rattle.resin_meaning_forms.specs.Expressions.{holds}
 use Rattle.resin_meaning_forms.specs.Statements.{echo_all, unset_all, bind_all, object_or_none, throw, returned, simple_form, other_branch, branches, turn_end, going_on, turn, while_turns, by_ticks, while_loop, last_holds, run_all, for_turns, for_loop, key_value, assign_key, assign_entry, each_entry, foreach, loop_form, from_default, chosen, run_cases, switch, catch_for, assign_caught, handled, catching, caught_by, with_catches, end_of, closing, try_form, stmt_form}
 use Rattle.resin_frame.specs.Frames.{IsFramed}
-use Rattle.resin_frame.proofs.Frames.{framed_by_ticks, framed_bind, FramedEvals, framing}
+use Rattle.resin_frame.proofs.Frames.{framed_by_ticks, framed_bind, framed_looked, FramedEvals, framing}
+use Rattle.resin_frame.proofs.Numbers.{catch_for_numberless}
 use Rattle.resin_frame.proofs.framed_forms.Writes.{echo_framed, inline_framed}
 use Rattle.resin_frame.proofs.framed_forms.Targets.{steps_framed}
 use Rattle.resin_frame.proofs.framed_forms.Operators.{equal_framed}
@@ -172,7 +173,7 @@ handled_framed ev o None h = search framing depth 12
 handled_framed ev o (Some c) h = search (framing, block_framed, assign_caught_framed) depth 12
 
 pub catching_framed : {own : Option (List ℕ)} (ev : Evals) (cs : List Catch) (o : ℕ) → FramedEvals own ev → IsFramed {A = Course} own (catching ev cs o)
-catching_framed ev cs o h = search (framing, handled_framed) depth 12
+catching_framed ev cs o h = framed_bind _ _ (framed_looked (catch_for o cs) (catch_for_numberless o cs)) (λ c. handled_framed ev o c h)
 
 pub caught_by_framed : {own : Option (List ℕ)} (ev : Evals) (cs : List Catch) (a2 : Result Course ℕ) → FramedEvals own ev → IsFramed {A = Course} own (caught_by ev cs a2)
 caught_by_framed ev cs (Ok course) h = search framing depth 12

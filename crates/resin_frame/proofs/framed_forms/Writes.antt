@@ -29,7 +29,8 @@ use Rattle.resin_meaning_forms.specs.Operators.{too_long}
 use Rattle.resin_meaning_forms.specs.Invoke.{call_object}
 use Rattle.resin_meaning_forms.specs.Writes.{plain, context_of, check, text_answer, filter_write, channel_of, chain_for, header_or_throw, new_line, behind, joined_mail, prepared, IsTold, sent, leave, write_page, echo, inline}
 use Rattle.resin_frame.specs.Frames.{IsFramed}
-use Rattle.resin_frame.proofs.Frames.{FramedEvals, framing}
+use Rattle.resin_frame.proofs.Frames.{framed_bind, framed_looked, FramedEvals, framing}
+use Rattle.resin_frame.proofs.Numbers.{chain_for_numberless}
 use Rattle.resin_frame.proofs.framed_forms.Invoke.{call_object_framed}
 use Rattle.resin_frame.proofs.framed_forms.LeavingWrites.{leaving_write_framed}
 use Rattle.resin_frame.proofs.framed_forms.Parts.{charge_text_framed}
@@ -67,7 +68,9 @@ sent_framed (Status status) w d = search framing depth 12
 sent_framed (Mail to subject) w d = search framing depth 12
 
 pub leave_framed : {own : Option (List ℕ)} (ev : Evals) (what : Outgoing) (context : Value) (t : LabelledText) → FramedEvals own ev → IsFramed {A = (Unit {0})} own (leave ev what context t)
-leave_framed ev what context t h = search (framing, leaving_write_framed, check_framed, filter_write_framed, prepared_framed, sent_framed) depth 12
+leave_framed ev what context t h =
+    framed_bind _ _ (framed_looked (chain_for what) (chain_for_numberless what))
+    (λ chain. search (framing, leaving_write_framed, check_framed, filter_write_framed, prepared_framed, sent_framed) depth 12)
 
 pub write_page_framed : {own : Option (List ℕ)} (ev : Evals) (t : LabelledText) → FramedEvals own ev → IsFramed {A = (Unit {0})} own (write_page ev t)
 write_page_framed ev t h = search (framing, leave_framed) depth 12
