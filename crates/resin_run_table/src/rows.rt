@@ -1,5 +1,5 @@
 //! Rows, and the traces that they stand for.
-use crate::runs::{calm, calm_run, fake, left_after, push_status, shown_run, status_of};
+use crate::runs::{calm, calm_run, fake, left_after, push_status, shown_run, status_of, turns};
 use crate::text::cut;
 use resin_base::Bytes;
 use resin_serve::Status;
@@ -103,6 +103,7 @@ pub fn answer(alloc: Global, row: &str) -> Result<String, AllocError> {
     match kind {
         "calm" => calm(alloc, settings, fields),
         "fake" => fake(alloc, settings, fields),
+        "turns" => turns(alloc, settings, fields),
         "left" => left_after(alloc, settings, fields),
         "singly" => singly(alloc, fields),
         "cuts" => cuts(alloc, fields),

@@ -1,7 +1,9 @@
 //! Runs of `serve`.
-use crate::text::{cut, push_part, setting};
-use resin_base::{Bytes, FailList, Sink, Source};
-use resin_memory::{CalmSink, CalmSource, CalmTables, FakeFiles, FakeSink, FakeSource};
+use crate::keepers::{Keepers, keepers_of, push_seen};
+use crate::settings::{list_of, setting};
+use crate::text::{cut, push_part};
+use resin_base::{Bytes, Sink, Source};
+use resin_memory::{CalmSink, CalmSource, FakeSink, FakeSource};
 use resin_serve::{Ended, Status, serve};
 use std::alloc::{AllocError, Global};
 
@@ -15,60 +17,41 @@ fn words_of(alloc: Global, text: &str) -> Result<Vec<String>, AllocError> {
     Ok(words)
 }
 
-// The list of the number behind a word, and of none where the word isn't there.
-fn list_of(alloc: Global, settings: &str, word: &str) -> Result<FailList, AllocError> {
-    let mut list = FailList::new(alloc);
-    if let Some(number) = setting(settings, word) {
-        list.push(number as u64)?;
-    }
-    Ok(list)
-}
-
-// Puts the files whose names and bytes stand in turn.
-fn put_files(files: &mut FakeFiles, fields: &str) -> Result<(), AllocError> {
-    let mut name: Option<&str> = None;
-    for field in fields.split('|') {
-        match name {
-            Some(found) => {
-                files.put(found.as_bytes(), field.as_bytes(), b"")?;
-                name = None;
-            }
-            None => name = Some(field),
-        }
-    }
-    Ok(())
-}
-
-// The site of every run, and further files.
-fn site_of(alloc: Global, settings: &str, fields: &str) -> Result<FakeFiles, AllocError> {
-    let mut files = FakeFiles::new(alloc, list_of(alloc, settings, "file")?);
-    files.put(b"a.php", b"hi", b"")?;
-    files.put(b"d.txt", b"abc", b"")?;
-    put_files(&mut files, fields)?;
-    Ok(files)
-}
-
 /// What a run left: how it ended, its log and its mail.
 #[derive(Drop)]
 pub struct Left {
     pub ended: Ended,
     log: FakeSink,
-    mail: CalmSink,
+    mail: FakeSink,
 }
 
-// Serves a source to an output. The log is what settings tell of.
+// The output, log or mail that settings tell of. The word is that of its failing call.
+fn sink_of(alloc: Global, settings: &str, word: &str) -> Result<FakeSink, AllocError> {
+    let chunk = setting(settings, "sink").unwrap_or(1_000_000);
+    Ok(FakeSink::new(alloc, chunk, list_of(alloc, settings, word, 0)?))
+}
+
+// Asks for memory so many times, and gives it back each time.
+fn ask(alloc: Global, times: usize) -> Result<(), AllocError> {
+    for _ in 0..times {
+        String::from_str(alloc, "a")?;
+    }
+    Ok(())
+}
+
+// Serves a source to an output. The log and the mail are what settings tell of.
 fn served<S: Source, O: Sink>(
     alloc: Global,
     settings: &str,
     words: &str,
     source: &mut S,
     out: &mut O,
-    files: &mut FakeFiles,
+    keepers: &mut Keepers,
 ) -> Result<Left, AllocError> {
     let words = words_of(alloc, words)?;
-    let mut log = FakeSink::new(alloc, 1_000_000, list_of(alloc, settings, "log")?);
-    let mut mail = CalmSink::new(alloc);
-    let mut tables = CalmTables::new(alloc);
+    let mut log = sink_of(alloc, settings, "log")?;
+    let mut mail = sink_of(alloc, settings, "mail")?;
+    ask(alloc, setting(settings, "ask").unwrap_or(0))?;
     let ended = serve(
         alloc,
         &words,
@@ -76,8 +59,8 @@ fn served<S: Source, O: Sink>(
         out,
         &mut log,
         &mut mail,
-        files,
-        &mut tables,
+        &mut keepers.files,
+        &mut keepers.tables,
     );
     Ok(Left { ended, log, mail })
 }
@@ -142,21 +125,21 @@ pub fn calm_run(
     alloc: Global,
     words: &str,
     trace: Bytes,
-    files: &str,
+    fields: &str,
 ) -> Result<(Left, CalmSink), AllocError> {
     let mut source = CalmSource::new(trace);
     let mut out = CalmSink::new(alloc);
-    let mut files = site_of(alloc, "", files)?;
-    let left = served(alloc, "", words, &mut source, &mut out, &mut files)?;
+    let mut keepers = keepers_of(alloc, "", fields)?;
+    let left = served(alloc, "", words, &mut source, &mut out, &mut keepers)?;
     Ok((left, out))
 }
 
 /// Shows a run over a calm outside.
 pub fn calm(alloc: Global, settings: &str, fields: &str) -> Result<String, AllocError> {
     let (words, rest) = cut(fields, '|');
-    let (trace, files) = cut(rest, '|');
+    let (trace, fields) = cut(rest, '|');
     let trace = repeated(alloc, settings, trace)?;
-    let (left, out) = calm_run(alloc, words, trace, files)?;
+    let (left, out) = calm_run(alloc, words, trace, fields)?;
     shown(alloc, &left, out.written())
 }
 
@@ -164,35 +147,61 @@ pub fn calm(alloc: Global, settings: &str, fields: &str) -> Result<String, Alloc
 fn source_of(alloc: Global, settings: &str, trace: &str) -> Result<FakeSource, AllocError> {
     let trace = repeated(alloc, settings, trace)?;
     let chunk = setting(settings, "chunk").unwrap_or(65_536);
-    let fail = list_of(alloc, settings, "read")?;
+    let fail = list_of(alloc, settings, "read", 0)?;
     Ok(FakeSource::new(trace, chunk.max(1), fail))
 }
 
-// The output that settings tell of.
-fn sink_of(alloc: Global, settings: &str) -> Result<FakeSink, AllocError> {
-    let chunk = setting(settings, "sink").unwrap_or(1_000_000);
-    Ok(FakeSink::new(alloc, chunk, list_of(alloc, settings, "write")?))
+// Serves over an outside that may fail, and shows what is left there.
+fn fake_run(alloc: Global, settings: &str, fields: &str) -> Result<(Left, String), AllocError> {
+    let (words, rest) = cut(fields, '|');
+    let (trace, fields) = cut(rest, '|');
+    let mut source = source_of(alloc, settings, trace)?;
+    let mut out = sink_of(alloc, settings, "write")?;
+    let mut keepers = keepers_of(alloc, settings, fields)?;
+    let left = served(alloc, settings, words, &mut source, &mut out, &mut keepers)?;
+    let mut text = shown(alloc, &left, out.written())?;
+    push_seen(alloc, &mut text, &keepers, fields)?;
+    Ok((left, text))
 }
 
 /// Shows a run over an outside that may fail.
 pub fn fake(alloc: Global, settings: &str, fields: &str) -> Result<String, AllocError> {
-    let (words, rest) = cut(fields, '|');
-    let (trace, files) = cut(rest, '|');
-    let mut source = source_of(alloc, settings, trace)?;
-    let mut out = sink_of(alloc, settings)?;
-    let mut files = site_of(alloc, settings, files)?;
-    let left = served(alloc, settings, words, &mut source, &mut out, &mut files)?;
-    shown(alloc, &left, out.written())
+    let (_, text) = fake_run(alloc, settings, fields)?;
+    Ok(text)
+}
+
+// Whether no call of the outside failed in a run.
+fn is_whole(left: &Left) -> bool {
+    left.ended.status == Status::Ok && left.ended.failed.as_slice().is_empty()
+}
+
+/// Shows runs in which each call of one part of the outside fails in turn, and the run in which none does. The word of that part stands before
+/// the other settings.
+pub fn turns(alloc: Global, settings: &str, fields: &str) -> Result<String, AllocError> {
+    let (word, others) = cut(settings, ' ');
+    let mut lines = String::new(alloc);
+    for number in 1..100usize {
+        let settings = format!(in alloc; "{word} {number} {others}")?;
+        let (left, text) = fake_run(alloc, settings.as_str(), fields)?;
+        if number > 1 {
+            lines.push('\n')?;
+        }
+        lines.push_str(text.as_str())?;
+        if is_whole(&left) {
+            break;
+        }
+    }
+    Ok(lines)
 }
 
 /// Shows the status of a run, and how many bytes the source gives next.
 pub fn left_after(alloc: Global, settings: &str, fields: &str) -> Result<String, AllocError> {
     let (words, rest) = cut(fields, '|');
-    let (trace, files) = cut(rest, '|');
+    let (trace, fields) = cut(rest, '|');
     let mut source = source_of(alloc, settings, trace)?;
-    let mut out = sink_of(alloc, settings)?;
-    let mut files = site_of(alloc, settings, files)?;
-    let left = served(alloc, settings, words, &mut source, &mut out, &mut files)?;
+    let mut out = sink_of(alloc, settings, "write")?;
+    let mut keepers = keepers_of(alloc, settings, fields)?;
+    let left = served(alloc, settings, words, &mut source, &mut out, &mut keepers)?;
     let mut buffer = [0u8; 65536];
     let count = source.take(&mut buffer).unwrap_or(0);
     let mut text = String::new(alloc);
@@ -206,8 +215,8 @@ pub fn shown_run(
     alloc: Global,
     words: &str,
     trace: Bytes,
-    files: &str,
+    fields: &str,
 ) -> Result<String, AllocError> {
-    let (left, out) = calm_run(alloc, words, trace, files)?;
+    let (left, out) = calm_run(alloc, words, trace, fields)?;
     shown(alloc, &left, out.written())
 }

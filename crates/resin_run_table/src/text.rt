@@ -25,12 +25,8 @@ pub fn unescaped(alloc: Global, line: &str) -> Result<String, AllocError> {
     Ok(out)
 }
 
-/// Adds bytes behind a mark, as one line shows them, where there are any.
-pub fn push_part(alloc: Global, out: &mut String, bytes: &[u8]) -> Result<(), AllocError> {
-    if bytes.is_empty() {
-        return Ok(());
-    }
-    out.push_str(" | ")?;
+/// Adds bytes as one line shows them.
+pub fn push_shown(alloc: Global, out: &mut String, bytes: &[u8]) -> Result<(), AllocError> {
     let text = String::from_utf8_lossy(alloc, bytes)?;
     for c in text.as_str().chars() {
         match c {
@@ -42,24 +38,19 @@ pub fn push_part(alloc: Global, out: &mut String, bytes: &[u8]) -> Result<(), Al
     Ok(())
 }
 
+/// Adds bytes behind a mark, as one line shows them, where there are any.
+pub fn push_part(alloc: Global, out: &mut String, bytes: &[u8]) -> Result<(), AllocError> {
+    if bytes.is_empty() {
+        return Ok(());
+    }
+    out.push_str(" | ")?;
+    push_shown(alloc, out, bytes)
+}
+
 /// What stands before a mark, and what stands behind it.
 pub fn cut(text: &str, mark: char) -> (&str, &str) {
     match text.split_once(mark) {
         Some(parts) => parts,
         None => (text, ""),
     }
-}
-
-/// The number behind a word among settings. None where the word isn't there.
-pub fn setting(settings: &str, word: &str) -> Option<usize> {
-    let mut rest = settings;
-    for _ in 0..settings.len() {
-        let (name, behind) = cut(rest, ' ');
-        let (digits, others) = cut(behind, ' ');
-        if name == word {
-            return digits.parse::<usize>().ok();
-        }
-        rest = others;
-    }
-    None
 }
