@@ -9,13 +9,13 @@ ghost use Rattle.std.specs.Prelude.{◌&&◌, ◌≡◌};
 
 use resin_eval_nested::nested::{Evaluator, Nested, Outcome};
 use resin_eval_nested::run::Run;
-use resin_eval_nested::under::step_functions::policies::with_answered;
 use resin_eval_nested::under::base::{Files, Tables};
 use resin_eval_nested::under::label::PSet;
 use resin_eval_nested::under::lstr::LText;
 use resin_eval_nested::under::machine::Stop;
 use resin_eval_nested::under::ops::{Arith, arith, to_int, to_number, to_text};
 use resin_eval_nested::under::scalar::{CallStop, ScriptFault};
+use resin_eval_nested::under::step_functions::policies::with_answered;
 use resin_eval_nested::under::step_parts::operators::{
     arithmetic, charge_one, charge_two, concatenated, given, own_set,
 };

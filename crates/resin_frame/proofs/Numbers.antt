@@ -439,21 +439,18 @@ by_ticks_numberless turns = record { reads = λ n m. refl }
 
 -- ---- all of them, for `search`
 
-pub ruleset numberless = (
-  looked_numberless,
-  faults_numberless, charge_numberless, charge_bytes_numberless, awake_numberless, ticks_left_numberless, throw_new_numberless, settled_numberless,
-  with_ticks_numberless, work_numberless,
-  read_numberless, assign_numberless, bind_global_numberless, set_session_numberless,
-  declare_function_numberless, declare_class_numberless, find_class_of_numberless, make_object_numberless, class_of_numberless, read_field_numberless,
-  set_field_numberless,
-  add_filter_numberless, remove_filter_numberless, add_function_filter_numberless, import_path_numberless,
-  fetch_numberless, store_numberless, erase_numberless,
-  draw_numberless, pass_numberless, deny_numberless, deny_filter_numberless, send_page_numberless, send_header_numberless, send_status_numberless,
-  send_mail_numberless,
-  open_buffer_numberless, close_buffer_numberless, buffer_numberless,
-  chain_of_numberless, function_chain_numberless, chain_for_numberless, callee_named_numberless, running_parent_numberless, properties_of_numberless,
-  method_named_numberless, policy_class_numberless, class_name_of_numberless, is_under_numberless, are_under_numberless, marks_under_numberless,
-  fits_numberless, catch_for_numberless, is_imported_numberless, frozen_marks_numberless, at_property_numberless, status_numberless,
-  open_buffers_numberless, session_numberless,
-  hushed_numberless, at_line_numberless, in_call_numberless, by_ticks_numberless,
-)
+pub ruleset ticking = (faults_numberless, charge_numberless, charge_bytes_numberless, awake_numberless, ticks_left_numberless, throw_new_numberless, settled_numberless, with_ticks_numberless, work_numberless)
+
+pub ruleset varying = (read_numberless, assign_numberless, bind_global_numberless, set_session_numberless, fetch_numberless, store_numberless, erase_numberless)
+
+pub ruleset declaring = (declare_function_numberless, declare_class_numberless, find_class_of_numberless, make_object_numberless, class_of_numberless, read_field_numberless, set_field_numberless)
+
+pub ruleset filtering = (add_filter_numberless, remove_filter_numberless, add_function_filter_numberless, import_path_numberless)
+
+pub ruleset leaving = (draw_numberless, pass_numberless, deny_numberless, deny_filter_numberless, send_page_numberless, send_header_numberless, send_status_numberless, send_mail_numberless, open_buffer_numberless, close_buffer_numberless, buffer_numberless)
+
+pub ruleset looking = (looked_numberless, chain_of_numberless, function_chain_numberless, chain_for_numberless, callee_named_numberless, running_parent_numberless, properties_of_numberless, method_named_numberless, policy_class_numberless, class_name_of_numberless, is_under_numberless, are_under_numberless, marks_under_numberless, fits_numberless, catch_for_numberless, is_imported_numberless, frozen_marks_numberless, at_property_numberless, status_numberless, open_buffers_numberless, session_numberless)
+
+pub ruleset entering = (hushed_numberless, at_line_numberless, in_call_numberless, by_ticks_numberless)
+
+pub ruleset numberless = (ticking, varying, declaring, filtering, leaving, looking, entering)

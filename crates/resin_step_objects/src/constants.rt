@@ -9,10 +9,10 @@ ghost use Rattle.resin_step_functions.specs.Under.value.Keys.{is_lawful};
 ghost use Rattle.resin_step_functions.specs.Under.value.Seen.{tree_of};
 ghost use Rattle.std.specs.Prelude.{IfOk, IfSome, IsTrue, OnOk, Ok, map, ◌≡◌};
 
-use resin_step_functions::under::step_parts::reads::{literal_value, with_entry};
 use resin_step_functions::under::machine::{Machine, Stop};
 use resin_step_functions::under::ops::to_key;
 use resin_step_functions::under::scalar::CallStop;
+use resin_step_functions::under::step_parts::reads::{literal_value, with_entry};
 use resin_step_functions::under::value::{Arr, Key, Value};
 use resin_tree::{Constant, ConstantItem};
 use std::alloc::Global;

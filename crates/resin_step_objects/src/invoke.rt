@@ -6,11 +6,11 @@ ghost use Rattle.std.specs.Option.{option_copied, option_map};
 ghost use Rattle.std.specs.Prelude.{IfOk, slice_get, ◌≡◌};
 
 use crate::constants::constant_value;
-use resin_step_functions::under::step_parts::reads::object_list;
 use resin_step_functions::under::heap::{MethodAt, PreludeClass, PreludeMethod};
 use resin_step_functions::under::machine::{Machine, Stop};
 use resin_step_functions::under::meaning_forms::Course;
 use resin_step_functions::under::scalar::ScriptFault;
+use resin_step_functions::under::step_parts::reads::object_list;
 use resin_step_functions::under::value::{Value, Values};
 use resin_tree::{Function, Parameter};
 use std::alloc::{AllocError, Global};
