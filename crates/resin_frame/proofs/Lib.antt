@@ -1,6 +1,7 @@
 pub mod Numbers
 pub mod Composition
 pub mod Keepers
+pub mod Rows
 pub mod Frames
 pub mod Apart
 pub mod framed_forms

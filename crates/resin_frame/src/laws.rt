@@ -1,7 +1,19 @@
-//! What holds of programs, each on a function that does nothing.
+//! What holds of programs, and of tables, each on a function that does nothing.
 ghost use Rattle.resin_frame.specs.Frames.{ScriptsAreFramed};
+ghost use Rattle.resin_frame.specs.Rows.{CreateKeeps, InsertKeeps, UpdateKeeps, DeleteKeeps, RowsStay};
 
 /// Whatever a script does, it sees and changes nothing but what its keeper calls name, and they name no session of a visitor.
 pub fn frame_law()
     ensures { ScriptsAreFramed }
+{}
+
+/// What calls on tables leave alone: every table but the one that they name, and every row but the one that an update or a delete names. An insert
+/// puts a row behind the others, under a number that none has; an update leaves the number of each row, and their order; and a call that tells that
+/// it did nothing changes nothing. So a row that none of many calls names stands as it did, whatever the keeper answers, and where it fails.
+pub fn row_laws()
+    ensures create { CreateKeeps }
+    ensures insert { InsertKeeps }
+    ensures update { UpdateKeeps }
+    ensures delete { DeleteKeeps }
+    ensures rows { RowsStay }
 {}
