@@ -1,1 +1,3 @@
 pub mod Frames
+pub mod Rows
+pub mod LabelledTables
