@@ -13,7 +13,7 @@ use Rattle.resin_step_functions.specs.Under.value.Seen.{tree_of}
 use Rattle.resin_step_functions.specs.Under.value.Values.{value_of}
 use Rattle.resin_step_functions.specs.Under.ops.Conversions.{key_of}
 use Rattle.resin_step_functions.specs.Under.ops.Places.{seen_answer}
-use Rattle.resin_step_functions.specs.Under.array_fn.Filled.{and_then, added_at, Addition}
+use Rattle.resin_step_functions.specs.Under.builtin.Under.array_fn.Filled.{and_then, added_at, Addition}
 use Rattle.resin_step_functions.specs.Under.builtin.Rows.{mapped, tree_of_array}
 use Rattle.resin_tree.specs.declared.declaration.Constant.{Constant, Constant-F, fold-Constant, fold-roll-Constant}
 use Rattle.resin_tree.specs.declared.declaration.Constant.TheVariants as constant
