@@ -10,12 +10,11 @@ use Rattle.resin_audit.specs.Under.scan.Bytes.{is_name_byte, is_digit}
 use Rattle.resin_audit.specs.Under.scan.Lists.{Every}
 use Rattle.resin_audit.specs.Under.scan.Words.{IsName}
 use Rattle.resin_site.specs.declared.outcome.End.{End}
-use Rattle.resin_site.specs.Keeping.{St, state}
+use Rattle.resin_site.specs.Keeping.{state}
 use Rattle.resin_site.specs.Laws.{ObeysIn}
 use Rattle.resin_site.specs.Replies as site
 use Rattle.resin_site.specs.Under.journal.declared.channel.Channel.{Channel}
 use Rattle.resin_site.specs.Under.journal.declared.channel.Channel.TheVariants.{Http, Header, Email, File, Sql, Code, Input, Func}
-use Rattle.resin_site.specs.Under.journal.declared.event.Event.{Event}
 use Rattle.resin_site.specs.Under.journal.declared.event.Event.TheVariants.{Passed, Sent, Denied, FilterDenied}
 use Rattle.resin_site.specs.Under.journal.Access.{ClassesAreNames}
 use Rattle.resin_site.specs.Under.journal.Channels.{channel_name}
@@ -25,7 +24,7 @@ use Rattle.resin_bench_site.specs.Site.{site_files, with_files}
 use Rattle.resin_serve.specs.declared.logging.Logging.TheVariants.{Denials}
 use Rattle.resin_serve.specs.Asked.{meaning}
 use Rattle.resin_serve.specs.Denials.{denials_in, denials_of, IsLine, EachIsALine, LogTellsDenials, SampleTellsDenials}
-use Rattle.resin_serve.specs.Meaning.{Owed, tagged, reply, order, bytes_of, AllObey}
+use Rattle.resin_serve.specs.Meaning.{tagged, reply, order, bytes_of}
 use Rattle.resin_serve.specs.Ran.{part}
 use Rattle.resin_serve.specs.Recorded.{journals_of}
 use Rattle.resin_serve.specs.Samples.{held, lines_in}

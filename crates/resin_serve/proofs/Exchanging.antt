@@ -1,12 +1,12 @@
 -- Two neighbouring answers of a run, in either order.
 use Rattle.std.proofs.Common.{◌≡◌, ℕ, ◌+◌, List, ◌∷◌, ◌++◌, length, refl, sym, ap, subst, ◌∙◌, arith, append_assoc}
 use Rattle.resin_site.specs.Framing.{SayTheSameAs}
-use Rattle.resin_site.specs.Keeping.{Store, St}
+use Rattle.resin_site.specs.Keeping.{St}
 use Rattle.resin_site.specs.Replies as site
-use Rattle.resin_site.proofs.Exchanged.{InEitherOrder, in_either_order}
+use Rattle.resin_site.proofs.Exchanged.{in_either_order}
 use Rattle.resin_site.proofs.Framed.{framed_answer}
 use Rattle.resin_serve.specs.Asked.{recorded, meaning}
-use Rattle.resin_serve.specs.Exchange.{AreApart, IsSameAnswer, Exchanged, Exchanges, IsRunOf, RunsAlike, ExchangesInRuns, ExchangedRuns}
+use Rattle.resin_serve.specs.Exchange.{IsSameAnswer, Exchanges, IsRunOf, ExchangesInRuns, ExchangedRuns}
 use Rattle.resin_serve.specs.Logs.{logged}
 use Rattle.resin_serve.specs.Meaning.{Meaning, Owed, Reply, tagged, reply, bytes_of, after_of, calls_of}
 use Rattle.resin_serve.specs.Records.{record_text}

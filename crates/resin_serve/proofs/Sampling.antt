@@ -1,23 +1,23 @@
 -- A run over a source, sinks and keepers that never fail.
-use Rattle.std.proofs.Common.{◌≡◌, ℕ, ◌+◌, ◌-◌, ◌^◌, ◌≤◌, min, List, [], ◌++◌, length, Option, Some, None, refl, sym, ap, ◌∙◌, subst, arith, inl, inr}
+use Rattle.std.proofs.Common.{◌≡◌, ℕ, ◌+◌, ◌-◌, ◌^◌, ◌≤◌, min, List, [], ◌++◌, length, Option, Some, None, refl, ap, ◌∙◌, subst, arith, inl, inr}
 use Rattle.std.specs.FinMap.{empty}
 use Rattle.resin_site.specs.Under.base.Causes.{Rose}
 use Rattle.resin_site.specs.Under.base.FileStore.{FileStore}
 use Rattle.resin_site.specs.Under.base.TableStore.{TableStore}
 use Rattle.resin_site.specs.Under.store.Files.{lift_files}
-use Rattle.resin_site.specs.Keeping.{Store, Answers, answers, state, store_of}
+use Rattle.resin_site.specs.Keeping.{Store, Answers, state, store_of}
 use Rattle.resin_trace.specs.Verdicts.{IsGood}
 use Rattle.resin_serve.specs.declared.give.Given.TheVariants.{Whole}
 use Rattle.resin_serve.specs.declared.status.Status.{Status}
 use Rattle.resin_serve.specs.declared.status.Status.TheVariants.{Usage, BadTrace, ReadFault, WriteFault, TraceTooLong, AuditRefused}
 use Rattle.resin_serve.specs.declared.status.Status.TheVariants.{Ok as StatusOk, Memory as StatusMemory}
 use Rattle.resin_serve.specs.Meaning.{Meaning, order, bytes_of, AllObey}
-use Rattle.resin_serve.specs.Ran.{World, world, part, Ran, Through}
+use Rattle.resin_serve.specs.Ran.{World, world, part, Ran}
 use Rattle.resin_serve.specs.Gives.{Sinks, RoseIn, CausedIn, counts, sinks}
 use Rattle.resin_serve.specs.Kept.{Keepers, keepers, Kept}
-use Rattle.resin_serve.specs.Whole_run.{RunOf, RunsFrom, ReadCause, Numbers, given_of_status}
+use Rattle.resin_serve.specs.Whole_run.{RunsFrom, ReadCause, Numbers, given_of_status}
 use Rattle.resin_serve.specs.Headline.{Completes, Calm}
-use Rattle.resin_serve.specs.Samples.{held, lines_in, ComesTo, TellsCounts}
+use Rattle.resin_serve.specs.Samples.{held, lines_in, TellsCounts}
 use Rattle.resin_serve.proofs.Completing.{completes, no_fails}
 
 -- sinks that never fail
