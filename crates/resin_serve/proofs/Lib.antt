@@ -19,5 +19,6 @@ pub mod Exchanging
 pub mod Marking
 pub mod Telling
 pub mod Recording
+pub mod Denying
 pub mod Ends
 pub mod Sampling

@@ -1,23 +1,23 @@
 -- A run over a source, sinks and keepers that never fail.
-use Rattle.std.proofs.Common.{◌≡◌, ℕ, ◌+◌, ◌-◌, ◌^◌, ◌≤◌, min, List, [], ◌++◌, length, Option, Some, None, refl, sym, ap, ◌∙◌, subst, arith, inl, inr}
+use Rattle.std.proofs.Common.{◌≡◌, ℕ, ◌+◌, ◌-◌, ◌^◌, ◌≤◌, min, List, [], ◌++◌, length, Option, Some, None, refl, ap, ◌∙◌, subst, arith, inl, inr}
 use Rattle.std.specs.FinMap.{empty}
 use Rattle.resin_site.specs.Under.base.Causes.{Rose}
 use Rattle.resin_site.specs.Under.base.FileStore.{FileStore}
 use Rattle.resin_site.specs.Under.base.TableStore.{TableStore}
 use Rattle.resin_site.specs.Under.store.Files.{lift_files}
-use Rattle.resin_site.specs.Keeping.{Store, Answers, answers, state, store_of}
+use Rattle.resin_site.specs.Keeping.{Store, Answers, state, store_of}
 use Rattle.resin_trace.specs.Verdicts.{IsGood}
 use Rattle.resin_serve.specs.declared.give.Given.TheVariants.{Whole}
 use Rattle.resin_serve.specs.declared.status.Status.{Status}
 use Rattle.resin_serve.specs.declared.status.Status.TheVariants.{Usage, BadTrace, ReadFault, WriteFault, TraceTooLong, AuditRefused}
 use Rattle.resin_serve.specs.declared.status.Status.TheVariants.{Ok as StatusOk, Memory as StatusMemory}
-use Rattle.resin_serve.specs.Meaning.{Meaning, order, bytes_of}
-use Rattle.resin_serve.specs.Ran.{World, world, part, Ran, Through}
+use Rattle.resin_serve.specs.Meaning.{Meaning, order, bytes_of, AllObey}
+use Rattle.resin_serve.specs.Ran.{World, world, part, Ran}
 use Rattle.resin_serve.specs.Gives.{Sinks, RoseIn, CausedIn, counts, sinks}
 use Rattle.resin_serve.specs.Kept.{Keepers, keepers, Kept}
-use Rattle.resin_serve.specs.Whole_run.{RunOf, RunsFrom, ReadCause, Numbers, given_of_status}
+use Rattle.resin_serve.specs.Whole_run.{RunsFrom, ReadCause, Numbers, given_of_status}
 use Rattle.resin_serve.specs.Headline.{Completes, Calm}
-use Rattle.resin_serve.specs.Samples.{held, lines_in, ComesTo, TellsCounts}
+use Rattle.resin_serve.specs.Samples.{held, lines_in, TellsCounts}
 use Rattle.resin_serve.proofs.Completing.{completes, no_fails}
 
 -- sinks that never fail
@@ -55,6 +55,13 @@ through : (Q : _ → Type 0) (R : Meaning) (K : List ℕ) (xs : _) (log mail out
 unfolding Ran
 through Q R K xs log mail out log' mail' out' files tables told told' store' made made' r = r.gained.log
 
+-- each of its answers obeys the access law
+obeyed : (Q : _ → Type 0) (R : Meaning) (K : List ℕ) (xs : _) (log mail out log' : List ℕ) (mail' out' : Option (List ℕ)) (files : FileStore) (tables : TableStore) (told told' : Answers) (store' : Option Store) (made made' : ℕ)
+    → Ran Whole Q R K 1 xs (world (Some log) (Some mail) (Some out) (store_of (Some files) (Some tables)) told made) (world (Some log') mail' out' store' told' made')
+    → AllObey R K (state (record { files = lift_files files; tables = tables }) made) 1 xs
+unfolding Ran
+obeyed Q R K xs log mail out log' mail' out' files tables told told' store' made made' r = r.lawful
+
 pub tells_counts : (status : Status) (R : Meaning) (T : List ℕ) (now : Option (List ℕ)) (files : FileStore) (tables : TableStore) (failed failed' : List ℕ) (made made' next : ℕ) (log mail out log' : List ℕ) (mail' out' : Option (List ℕ)) (told told' : Answers) (store' : Option Store)
     → Kept (keepers made failed None 0 None 0) (keepers made' failed' None 0 None 0) → made ≡ 0 → failed ≡ [] → tables ≡ empty → log ≡ [] → IsGood T → Numbers status T next
     → RunsFrom status R failed' T now (world (Some log) (Some mail) (Some out) (store_of (Some files) (Some tables)) told made) (world (Some log') mail' out' store' told' made')
@@ -70,7 +77,21 @@ tells_counts StatusOk R T now files tables failed failed' made made' next log ma
     ∙ ap (λ K. part 0 (bytes_of R K (state (record { files = lift_files files; tables = tables }) made) 1 xs)) none
     ∙ ap (λ s. part 0 (bytes_of R [] (state (record { files = lift_files files; tables = s }) made) 1 xs)) t
     ∙ ap (λ k. part 0 (bytes_of R [] (state (held files) k) 1 xs)) m in
-    (omega arith, record { records = good.events; whole = good.records; requests_are = (let e : next - 1 ≡ length xs = omega arith in e); denied_are = ap lines_in same })
+    let law : AllObey R failed' (state (record { files = lift_files files; tables = tables }) made) 1 xs =
+    obeyed _ R failed' xs log mail out log' mail' out' files tables told told' store' made made' (run.runs.1 good.events [] good.records) in
+    let same_law : AllObey R [] (state (held files) 0) 1 xs =
+    subst (λ k. AllObey R [] (state (held files) k) 1 xs) m
+    (subst (λ s. AllObey R [] (state (record { files = lift_files files; tables = s }) made) 1 xs) t
+    (subst (λ K. AllObey R K (state (record { files = lift_files files; tables = tables }) made) 1 xs) none law)) in (
+      omega arith,
+      record {
+        records = good.events;
+        whole = good.records;
+        requests_are = (let e : next - 1 ≡ length xs = omega arith in e);
+        lawful = same_law;
+        denied_are = ap lines_in same;
+      },
+    )
 tells_counts Usage R T now files tables failed failed' made made' next log mail out log' mail' out' told told' store' kept m f t l good number run = tt
 tells_counts (BadTrace offset) R T now files tables failed failed' made made' next log mail out log' mail' out' told told' store' kept m f t l good number run = tt
 tells_counts ReadFault R T now files tables failed failed' made made' next log mail out log' mail' out' told told' store' kept m f t l good number run = tt

@@ -15,6 +15,7 @@ pub mod Audits
 pub mod Samples
 pub mod Wholes
 pub mod Recorded
+pub mod Denials
 pub mod Cutting
 pub mod Exchange
 pub mod Waiting_streams

@@ -17,7 +17,7 @@ use Rattle.resin_serve.specs.declared.status.Status.TheVariants.{Usage, BadTrace
 use Rattle.resin_serve.specs.declared.status.Status.TheVariants.{Ok as StatusOk, Memory as StatusMemory}
 use Rattle.resin_serve.specs.declared.sample.Counted.{Counted}
 use Rattle.resin_serve.specs.Words.{usual_fuel}
-use Rattle.resin_serve.specs.Meaning.{Meaning, order, bytes_of}
+use Rattle.resin_serve.specs.Meaning.{Meaning, order, bytes_of, AllObey}
 use Rattle.resin_serve.specs.Ran.{Grew, part}
 use Rattle.resin_serve.specs.Gives.{Gave}
 use Rattle.resin_serve.specs.Asked.{meaning}
@@ -30,12 +30,13 @@ held files = record { files = lift_files files; tables = empty }
 abbrev pub lines_in : List ℕ → ℕ
 lines_in text = length (filter (λ b. b == 10) text)
 
--- The run of a trace over these files and no table, in which no keeper call fails: the whole trace is records, it has so many answers, and so many
--- lines of denials in its log. No denial line holds a newline but the one at its end.
+-- The run of a trace over these files and no table, in which no keeper call fails: the whole trace is records, it has so many answers, each of them
+-- obeys the access law, and its log has so many lines, each of which is one denial (`Denials`).
 pub record ComesTo (R : Meaning) (files : FileStore) (trace : List ℕ) (counted : Counted) : Type 0 where
   pub records : List (TraceEvent × ℕ)
   pub whole : Records trace records []
   pub requests_are : counted.requests ≡ length (order [] records)
+  pub lawful : AllObey R [] (state (held files) 0) 1 (order [] records)
   pub denied_are : counted.denied ≡ lines_in (part 0 (bytes_of R [] (state (held files) 0) 1 (order [] records)))
 
 -- after a whole run the next answer's number and the log tell what it came to

@@ -1,5 +1,7 @@
 //! Laws of runs, each on a function that does nothing.
 ghost use Rattle.resin_serve.specs.Cutting.{AnyCutting, AskedTells, LivesTell, OneConnection, SameLives, SameRuns};
+ghost use Rattle.resin_serve.specs.Denials.{EachIsALine, LogTellsDenials, SampleTellsDenials};
+ghost use Rattle.resin_serve.specs.Exchange.{ExchangedRuns};
 ghost use Rattle.resin_serve.specs.Recorded.{RecordsPass};
 
 /// No cutting of a connection's stream into pieces changes what it asks.
@@ -37,4 +39,17 @@ pub fn one_connection()
 /// of the answers and of their events.
 pub fn recorded_runs()
     ensures { RecordsPass }
+{}
+
+/// Two neighbouring answers of a run that leave each other's files and tables alone may come in either order: they are the same but for their numbers,
+/// and all else that the run gives, its keeper calls and what it leaves are the same.
+pub fn exchanged_runs()
+    ensures { ExchangedRuns }
+{}
+
+/// Each denial of a run is one line of its log, which has no other, so that the line of the sample tells the number of denials.
+pub fn sample_counts_denials()
+    ensures line { EachIsALine }
+    ensures run { LogTellsDenials }
+    ensures sample { SampleTellsDenials }
 {}
