@@ -21,7 +21,7 @@
 //! and the mail, where they hold anything; then what is kept, where the row asks. Of a row of cuts it has the status, how long the output is, and
 //! how many cuts give the same one. A line that begins with `# ` is a heading and is printed as it is.
 //!
-//! The input, and the output, which was worked out from the formats of traces, responses and stored policies alone, are the table of the tests of runs.
+//! The input, and the output, which was worked out from the formats of traces, responses and stored policies, are the table of the tests of runs.
 #![tactic(auto)]
 
 mod keepers;
