@@ -31,14 +31,6 @@ fn sink_of(alloc: Global, settings: &str, word: &str) -> Result<FakeSink, AllocE
     Ok(FakeSink::new(alloc, chunk, list_of(alloc, settings, word, 0)?))
 }
 
-// Asks for memory so many times, and gives it back each time.
-fn ask(alloc: Global, times: usize) -> Result<(), AllocError> {
-    for _ in 0..times {
-        String::from_str(alloc, "a")?;
-    }
-    Ok(())
-}
-
 // Serves a source to an output. The log and the mail are what settings tell of.
 fn served<S: Source, O: Sink>(
     alloc: Global,
@@ -51,7 +43,6 @@ fn served<S: Source, O: Sink>(
     let words = words_of(alloc, words)?;
     let mut log = sink_of(alloc, settings, "log")?;
     let mut mail = sink_of(alloc, settings, "mail")?;
-    ask(alloc, setting(settings, "ask").unwrap_or(0))?;
     let ended = serve(
         alloc,
         &words,
