@@ -6,10 +6,9 @@
 //! - `calm`: a trace, from a source that never fails, to an output that never fails. `times N` gives it N times over.
 //! - `fake`: the same, from a source that gives `chunk N` bytes at most, to an output, a log and a mail that take `sink N` at most. `read N`,
 //!   `write N`, `log N`, `mail N`, `file N` and `table N` let the Nth call of the source, of the output, of the log, of the mail, of the files or of
-//!   the tables fail. `ask N` asks for memory N times before the run, so that `rt try --fail-alloc` can refuse each request of the run. Among the
-//!   files may stand tables, each a field `table NAME COLUMN ..`, where `:INTEGER` may stand behind a column's name, and fields
-//!   `row NAME CELL~CELL..`, a cell being `i` and an integer, `t` and a text, or else NULL. A field `LOOK PATH` shows what is kept there after the
-//!   run, and a field `show NAME` the rows of a table.
+//!   the tables fail. Among the files may stand tables, each a field `table NAME COLUMN ..`, where `:INTEGER` may stand behind a column's name, and
+//!   fields `row NAME CELL~CELL..`, a cell being `i` and an integer, `t` and a text, or else NULL. A field `LOOK PATH` shows what is kept there after
+//!   the run, and a field `show NAME` the rows of a table.
 //! - `turns WORD`: as `fake`, with each call of that word failing in turn, until none fails. Further settings may follow.
 //! - `left`: as `fake`, and only the status is printed, with what the source gives next to a buffer of 65,536 bytes.
 //! - `singly`: as `calm`, but the stream of one connection, of which each byte is a record: its front, and more texts, each behind the number of
@@ -21,7 +20,7 @@
 //! and the mail, where they hold anything; then what is kept, where the row asks. Of a row of cuts it has the status, how long the output is, and
 //! how many cuts give the same one. A line that begins with `# ` is a heading and is printed as it is.
 //!
-//! The input, and the output, which was worked out from the formats of traces, responses and stored policies alone, are the table of the tests of runs.
+//! The input, and the output, which was worked out from the formats of traces, responses and stored policies, are the table of the tests of runs.
 #![tactic(auto)]
 
 mod keepers;

@@ -31,14 +31,6 @@ fn sink_of(alloc: Global, settings: &str, word: &str) -> Result<FakeSink, AllocE
     Ok(FakeSink::new(alloc, chunk, list_of(alloc, settings, word, 0)?))
 }
 
-// Asks for memory so many times, and gives it back each time.
-fn ask(alloc: Global, times: usize) -> Result<(), AllocError> {
-    for _ in 0..times {
-        String::from_str(alloc, "a")?;
-    }
-    Ok(())
-}
-
 // Serves a source to an output. The log and the mail are what settings tell of.
 fn served<S: Source, O: Sink>(
     alloc: Global,
@@ -51,7 +43,6 @@ fn served<S: Source, O: Sink>(
     let words = words_of(alloc, words)?;
     let mut log = sink_of(alloc, settings, "log")?;
     let mut mail = sink_of(alloc, settings, "mail")?;
-    ask(alloc, setting(settings, "ask").unwrap_or(0))?;
     let ended = serve(
         alloc,
         &words,
@@ -151,17 +142,81 @@ fn source_of(alloc: Global, settings: &str, trace: &str) -> Result<FakeSource, A
     Ok(FakeSource::new(trace, chunk.max(1), fail))
 }
 
-// Serves over an outside that may fail, and shows what is left there.
-fn fake_run(alloc: Global, settings: &str, fields: &str) -> Result<(Left, String), AllocError> {
+// An outside that may fail.
+#[derive(Drop)]
+struct Outside {
+    source: FakeSource,
+    out: FakeSink,
+    keepers: Keepers,
+}
+
+// The outside that settings and fields tell of.
+fn outside_of(
+    alloc: Global,
+    settings: &str,
+    trace: &str,
+    fields: &str,
+) -> Result<Outside, AllocError> {
+    let source = source_of(alloc, settings, trace)?;
+    let out = sink_of(alloc, settings, "write")?;
+    let keepers = keepers_of(alloc, settings, fields)?;
+    Ok(Outside {
+        source,
+        out,
+        keepers,
+    })
+}
+
+fn served_over(
+    alloc: Global,
+    settings: &str,
+    words: &str,
+    outside: &mut Outside,
+) -> Result<Left, AllocError> {
+    let Outside {
+        source,
+        out,
+        keepers,
+    } = outside;
+    served(alloc, settings, words, source, out, keepers)
+}
+
+// Shows what a run left, with what fields ask to see.
+fn shown_over(
+    alloc: Global,
+    left: &Left,
+    outside: &Outside,
+    fields: &str,
+) -> Result<String, AllocError> {
+    let mut text = shown(alloc, left, outside.out.written())?;
+    push_seen(alloc, &mut text, &outside.keepers, fields)?;
+    Ok(text)
+}
+
+// Whether no call of the outside failed in a run.
+fn is_whole(left: &Left) -> bool {
+    left.ended.status == Status::Ok && left.ended.failed.as_slice().is_empty()
+}
+
+// Serves, shows what is left, and tells whether no call failed.
+fn run_over(
+    alloc: Global,
+    settings: &str,
+    words: &str,
+    fields: &str,
+    outside: &mut Outside,
+) -> Result<(bool, String), AllocError> {
+    let left = served_over(alloc, settings, words, outside)?;
+    let text = shown_over(alloc, &left, outside, fields)?;
+    Ok((is_whole(&left), text))
+}
+
+// Shows a run over an outside that may fail, and tells whether none of its calls failed.
+fn fake_run(alloc: Global, settings: &str, fields: &str) -> Result<(bool, String), AllocError> {
     let (words, rest) = cut(fields, '|');
     let (trace, fields) = cut(rest, '|');
-    let mut source = source_of(alloc, settings, trace)?;
-    let mut out = sink_of(alloc, settings, "write")?;
-    let mut keepers = keepers_of(alloc, settings, fields)?;
-    let left = served(alloc, settings, words, &mut source, &mut out, &mut keepers)?;
-    let mut text = shown(alloc, &left, out.written())?;
-    push_seen(alloc, &mut text, &keepers, fields)?;
-    Ok((left, text))
+    let mut outside = outside_of(alloc, settings, trace, fields)?;
+    run_over(alloc, settings, words, fields, &mut outside)
 }
 
 /// Shows a run over an outside that may fail.
@@ -170,9 +225,19 @@ pub fn fake(alloc: Global, settings: &str, fields: &str) -> Result<String, Alloc
     Ok(text)
 }
 
-// Whether no call of the outside failed in a run.
-fn is_whole(left: &Left) -> bool {
-    left.ended.status == Status::Ok && left.ended.failed.as_slice().is_empty()
+// Adds a line for the run in which one call fails, and tells whether the run has no such call.
+fn push_turn(
+    alloc: Global,
+    lines: &mut String,
+    settings: &str,
+    fields: &str,
+) -> Result<bool, AllocError> {
+    let (whole, text) = fake_run(alloc, settings, fields)?;
+    if !lines.is_empty() {
+        lines.push('\n')?;
+    }
+    lines.push_str(text.as_str())?;
+    Ok(whole)
 }
 
 /// Shows runs in which each call of one part of the outside fails in turn, and the run in which none does. The word of that part stands before
@@ -182,32 +247,35 @@ pub fn turns(alloc: Global, settings: &str, fields: &str) -> Result<String, Allo
     let mut lines = String::new(alloc);
     for number in 1..100usize {
         let settings = format!(in alloc; "{word} {number} {others}")?;
-        let (left, text) = fake_run(alloc, settings.as_str(), fields)?;
-        if number > 1 {
-            lines.push('\n')?;
-        }
-        lines.push_str(text.as_str())?;
-        if is_whole(&left) {
+        if push_turn(alloc, &mut lines, settings.as_str(), fields)? {
             break;
         }
     }
     Ok(lines)
 }
 
+// What a source gives next to a buffer of 65,536 bytes.
+fn next_count(source: &mut FakeSource) -> usize {
+    let mut buffer = [0u8; 65536];
+    source.take(&mut buffer).unwrap_or(0)
+}
+
+// A status, and how many bytes were left.
+fn shown_left(alloc: Global, status: Status, count: usize) -> Result<String, AllocError> {
+    let mut text = String::new(alloc);
+    push_status(&mut text, status)?;
+    write!(text, " | {count} bytes left")?;
+    Ok(text)
+}
+
 /// Shows the status of a run, and how many bytes the source gives next.
 pub fn left_after(alloc: Global, settings: &str, fields: &str) -> Result<String, AllocError> {
     let (words, rest) = cut(fields, '|');
     let (trace, fields) = cut(rest, '|');
-    let mut source = source_of(alloc, settings, trace)?;
-    let mut out = sink_of(alloc, settings, "write")?;
-    let mut keepers = keepers_of(alloc, settings, fields)?;
-    let left = served(alloc, settings, words, &mut source, &mut out, &mut keepers)?;
-    let mut buffer = [0u8; 65536];
-    let count = source.take(&mut buffer).unwrap_or(0);
-    let mut text = String::new(alloc);
-    push_status(&mut text, left.ended.status)?;
-    write!(text, " | {count} bytes left")?;
-    Ok(text)
+    let mut outside = outside_of(alloc, settings, trace, fields)?;
+    let left = served_over(alloc, settings, words, &mut outside)?;
+    let count = next_count(&mut outside.source);
+    shown_left(alloc, left.ended.status, count)
 }
 
 /// Shows a run of a trace over a calm outside.
