@@ -1,7 +1,7 @@
 //! How events are spelled in a row: as in the journal file, with the labelled text of a `sent` behind its channel.
-use crate::texts::text_in;
 use resin_bytes::Bytes;
 use resin_journal::{Channel, Event, Journal};
+use resin_table_values::text_in;
 use std::alloc::{AllocError, Global};
 
 /// The words of an event.
@@ -45,14 +45,11 @@ impl<'a> Words<'a> {
 
 // `sent WRITE CHANNEL TEXT`
 fn sent(alloc: Global, words: Words<'_>) -> Result<Event, AllocError> {
-    match text_in(alloc, words.word(3)) {
-        Ok(text) => Ok(Event::Sent {
-            write: words.number(1),
-            channel: words.channel(2),
-            text,
-        }),
-        Err(_) => Err(AllocError),
-    }
+    Ok(Event::Sent {
+        write: words.number(1),
+        channel: words.channel(2),
+        text: text_in(alloc, words.word(3))?,
+    })
 }
 
 // The event that words spell; others than those of the file are a denial by a filter.

@@ -6,32 +6,37 @@
 //! - `wide|COUNT`: the verdict on a text that went out, all of whose bytes carry so many policies, each of which had returned;
 //! - `journal|REQUEST|EVENT|EVENT..`: the journal of these events as text, and the verdict on it.
 //!
-//! In a text `\n` stands for a newline, `\t` for a tab, `\r` for a carriage return, and a backslash before another byte for that byte. The bytes
-//! of an event's text are spelled as `ab{12}c{}`: `ab` carries the policies 1 and 2, `c` none.
+//! In a text `\n` stands for a newline, `\t` for a tab, `\r` for a carriage return, `\s` for a space, `\xhh` for the byte of two digits, and a
+//! backslash before another byte for that byte. The bytes of an event's text are spelled as `ab{12}c{}`: `ab` carries the policies 1 and 2,
+//! `c` none.
 //!
 //! The output was worked out by hand from the format of the file and from the access law, but for the last rows: their verdicts are those of
 //! another program, which tries the law on each front of each journal.
 #![tactic(auto)]
 
 mod events;
-mod texts;
 
-use crate::texts::{bytes_in, push_bytes};
 use resin_audit::under::journal_file::journal_text;
 use resin_audit::{Verdict, audit};
 use resin_bytes::Bytes;
+use resin_table_rows::{Line, bytes_in, split_row};
 use std::alloc::{AllocError, Global};
 use std::io;
 
 // Puts the verdict on a text last.
-fn push_verdict(alloc: Global, out: &mut String, text: &[u8]) -> Result<(), AllocError> {
+fn push_verdict(alloc: Global, out: &mut Line, text: &[u8]) -> Result<(), AllocError> {
     match audit(alloc, text)? {
         Verdict::Yes { requests, events } => {
-            write!(out, " yes requests={requests} events={events}")
+            out.tell(" yes requests=", requests, "");
+            out.tell(" events=", events, "");
         }
-        Verdict::Form { offset } => write!(out, " form offset={offset}"),
-        Verdict::Law { request, event } => write!(out, " law request={request} event={event}"),
+        Verdict::Form { offset } => out.tell(" form offset=", offset, ""),
+        Verdict::Law { request, event } => {
+            out.tell(" law request=", request, "");
+            out.tell(" event=", event, "");
+        }
     }
+    Ok(())
 }
 
 // An argument, empty where the row has none there.
@@ -73,30 +78,37 @@ fn journal(alloc: Global, row: &[&str]) -> Result<Bytes, AllocError> {
     journal_text(alloc, request, &journal)
 }
 
-// The line with its answer.
-fn answered(alloc: Global, line: &str) -> Result<String, AllocError> {
-    let mut out = String::from_str(alloc, line)?;
-    if line.starts_with('#') {
-        return Ok(out);
-    }
-    out.push_str(" =")?;
-    let row: Vec<&str> = line.split('|').collect(alloc)?;
-    match argument(&row, 0) {
-        "audit" => push_verdict(alloc, &mut out, &bytes_in(alloc, argument(&row, 1))?)?,
-        "repeat" => push_verdict(alloc, &mut out, repeated(alloc, &row)?.as_slice())?,
+// Puts the answer of a row last.
+fn push_answer(alloc: Global, out: &mut Line, row: &[&str]) -> Result<(), AllocError> {
+    match argument(row, 0) {
+        "audit" => push_verdict(alloc, out, &bytes_in(alloc, argument(row, 1))?),
+        "repeat" => push_verdict(alloc, out, repeated(alloc, row)?.as_slice()),
         "wide" => {
-            let count = argument(&row, 1).parse::<u32>().unwrap_or(0);
-            push_verdict(alloc, &mut out, wide(alloc, count)?.as_bytes())?;
+            let count = argument(row, 1).parse::<u32>().unwrap_or(0);
+            push_verdict(alloc, out, wide(alloc, count)?.as_bytes())
         }
         "journal" => {
-            let text = journal(alloc, &row)?;
-            out.push(' ')?;
-            push_bytes(&mut out, text.as_slice())?;
-            push_verdict(alloc, &mut out, text.as_slice())?;
+            let text = journal(alloc, row)?;
+            out.push(' ');
+            out.push_spaced_bytes(text.as_slice());
+            push_verdict(alloc, out, text.as_slice())
         }
-        _ => out.push_str(" unknown")?,
+        _ => {
+            out.push_str(" unknown");
+            Ok(())
+        }
     }
-    Ok(out)
+}
+
+// The line with its answer.
+fn answered(alloc: Global, line: &str) -> Result<String, AllocError> {
+    let mut out = Line::new(alloc);
+    out.push_str(line);
+    if !line.starts_with('#') {
+        out.push_str(" =");
+        push_answer(alloc, &mut out, &split_row(alloc, line)?)?;
+    }
+    out.end()
 }
 
 fn main(rt: HostRuntime) -> io::Result<()> {

@@ -6,13 +6,13 @@
 //! The answers were worked out by PHP, and by hand for labels and ticks.
 #![tactic(auto)]
 
-ghost use Rattle.std.specs.Prelude.{◌<◌, length};
-
 use resin_builtin::under::label::PSet;
-use resin_builtin::under::lstr::{Builder, LText, TextFault};
+use resin_builtin::under::lstr::LText;
 use resin_builtin::under::scalar::{CallStop, ScriptFault, Ticks};
 use resin_builtin::under::value::{Arr, ArrFault, Key, Value, Values};
 use resin_builtin::{ArgKind, Sig, call, int_places, signature};
+use resin_table_rows::bytes_in;
+use resin_table_values::{cut_set, set_in, text_in};
 use std::alloc::{AllocError, Global};
 use std::io;
 
@@ -129,91 +129,9 @@ fn push_value(out: &mut String, value: &Value) -> Result<(), AllocError> {
     }
 }
 
-fn hexadecimal(b: u8) -> u8
-    ensures { result < 16 }
-{
-    match b {
-        b'0'..=b'9' => b - b'0',
-        b'a'..=b'f' => b - b'a' + 10,
-        _ => 0,
-    }
-}
-
-// The byte that an escape stands for, and how many bytes it takes.
-fn escaped(s: &[u8]) -> (u8, usize)
-    requires { 0 < length s.now }
-    ensures { 0 < result.1 }
-{
-    match s {
-        [b'\\', b'x', high, low, ..] => (16 * hexadecimal(*high) + hexadecimal(*low), 4),
-        [b'\\', b's', ..] => (b' ', 2),
-        [b'\\', b'n', ..] => (b'\n', 2),
-        [b'\\', b'r', ..] => (b'\r', 2),
-        [b'\\', b't', ..] => (b'\t', 2),
-        [b'\\', b'\\', ..] => (b'\\', 2),
-        _ => (s[0], 1),
-    }
-}
-
-fn unescaped(alloc: Global, text: &str) -> Result<Vec<u8>, AllocError> {
-    let bytes = text.as_bytes();
-    let mut out = Vec::new(alloc);
-    let mut skip = 0usize;
-    for i in 0..bytes.len() {
-        if skip > 0 {
-            skip -= 1;
-        } else {
-            let (b, taken) = escaped(&bytes[i..]);
-            out.push(b)?;
-            skip = taken - 1;
-        }
-    }
-    Ok(out)
-}
-
-// The set of the digits of a text.
-fn set_in(alloc: Global, digits: &str) -> Result<PSet, AllocError> {
-    let mut set = PSet::empty();
-    for digit in digits.as_bytes() {
-        set = set.with(alloc, u32::from(digit.saturating_sub(b'0')))?;
-    }
-    Ok(set)
-}
-
-// A set between braces.
-fn braced_set(alloc: Global, field: &str) -> Result<PSet, AllocError> {
-    let inside = field.strip_prefix('{').unwrap_or(field);
-    set_in(alloc, inside.strip_suffix('}').unwrap_or(inside))
-}
-
-fn append_piece(alloc: Global, out: Builder, piece: &str) -> Result<Builder, TextFault> {
-    let (text, digits) = piece.split_once('{').unwrap_or((piece, ""));
-    let bytes = unescaped(alloc, text)?;
-    let set = set_in(alloc, digits)?;
-    out.append_bytes(&bytes, &set)
-}
-
-fn pieces(alloc: Global, field: &str) -> Result<LText, TextFault> {
-    let mut out = Builder::new(alloc);
-    for piece in field.split('}') {
-        out = append_piece(alloc, out, piece)?;
-    }
-    Ok(out.finish()?)
-}
-
-fn text_in(alloc: Global, field: &str) -> Result<LText, CallStop> {
-    match pieces(alloc, field) {
-        Ok(text) => Ok(text),
-        Err(TextFault::TooLong) => Err(CallStop::Fault(ScriptFault::TextTooLong)),
-        Err(TextFault::Memory) => Err(CallStop::Memory),
-    }
-}
-
 // An integer and the set behind it.
 fn integer_in(alloc: Global, field: &str) -> Result<Value, AllocError> {
-    let (number, rest) = field.split_once('{').unwrap_or((field, ""));
-    let digits = rest.strip_suffix('}').unwrap_or(rest);
-    let set = set_in(alloc, digits)?;
+    let (number, set) = cut_set(alloc, field)?;
     Ok(Value::Int(number.parse::<i64>().unwrap_or(0), set))
 }
 
@@ -268,7 +186,7 @@ fn put_value(opened: &mut Vec<Open>, args: &mut Values, value: Value) -> Result<
 }
 
 fn set_key(alloc: Global, opened: &mut Vec<Open>, key: &str) -> Result<(), CallStop> {
-    let bytes = unescaped(alloc, key)?;
+    let bytes = bytes_in(alloc, key)?;
     let key = Key::from_text(alloc, &bytes)?;
     if let Some(open) = opened.last_mut() {
         open.key = Some(key);
@@ -315,7 +233,7 @@ fn arguments_in(alloc: Global, text: &str) -> Result<Values, CallStop> {
 
 fn called(alloc: Global, name: &str, rest: &str, ticks: &mut Ticks) -> Result<Value, CallStop> {
     let (set, fields) = rest.split_once(' ').unwrap_or((rest, ""));
-    let set = braced_set(alloc, set)?;
+    let set = set_in(alloc, set)?;
     let args = arguments_in(alloc, fields)?;
     call(alloc, name.as_bytes(), &args, &set, ticks)
 }

@@ -6,16 +6,15 @@
 //! The input and the answers, which another program worked out by the PHP manual, are the table of these builtins' tests.
 #![tactic(auto)]
 
-ghost use Rattle.std.specs.Prelude.{◌<◌, length};
-
 use resin_format::under::escape_fn::{
     addslashes, bin2hex, chr, htmlspecialchars, md5, nl2br, ord, rawurlencode, sha1, sql_quote,
     text_answer, urlencode,
 };
 use resin_format::under::label::PSet;
-use resin_format::under::lstr::{Builder, LText, TextFault};
+use resin_format::under::lstr::{LText, TextFault};
 use resin_format::under::scalar::CallStop;
 use resin_format::{FormatArg, FormatArgs, Kind, argument_kinds, int_places, sprintf};
+use resin_table_values::{cut_set, digits_in, text_in};
 use std::alloc::{AllocError, Global};
 use std::io;
 
@@ -54,80 +53,9 @@ fn shown(alloc: Global, t: &LText) -> Result<String, AllocError> {
     Ok(out)
 }
 
-fn hexadecimal(b: u8) -> u8
-    ensures { result < 16 }
-{
-    match b {
-        b'0'..=b'9' => b - b'0',
-        b'a'..=b'f' => b - b'a' + 10,
-        _ => 0,
-    }
-}
-
-// The byte that an escape stands for, and how many bytes it takes.
-fn escaped(s: &[u8]) -> (u8, usize)
-    requires { 0 < length s.now }
-    ensures { 0 < result.1 }
-{
-    match s {
-        [b'\\', b'x', high, low, ..] => (16 * hexadecimal(*high) + hexadecimal(*low), 4),
-        [b'\\', b'n', ..] => (b'\n', 2),
-        [b'\\', b'r', ..] => (b'\r', 2),
-        [b'\\', b't', ..] => (b'\t', 2),
-        [b'\\', b'\\', ..] => (b'\\', 2),
-        _ => (s[0], 1),
-    }
-}
-
-fn unescaped(alloc: Global, text: &str) -> Result<Vec<u8>, AllocError> {
-    let bytes = text.as_bytes();
-    let mut out = Vec::new(alloc);
-    let mut skip = 0usize;
-    for i in 0..bytes.len() {
-        if skip > 0 {
-            skip -= 1;
-        } else {
-            let (b, taken) = escaped(&bytes[i..]);
-            out.push(b)?;
-            skip = taken - 1;
-        }
-    }
-    Ok(out)
-}
-
-// The set of the digits of a text.
-fn set_in(alloc: Global, digits: &str) -> Result<PSet, AllocError> {
-    let mut set = PSet::empty();
-    for digit in digits.as_bytes() {
-        set = set.with(alloc, u32::from(digit.saturating_sub(b'0')))?;
-    }
-    Ok(set)
-}
-
-fn append_piece(alloc: Global, out: Builder, piece: &str) -> Result<Builder, TextFault> {
-    let (text, digits) = piece.split_once('{').unwrap_or((piece, ""));
-    let bytes = unescaped(alloc, text)?;
-    let set = set_in(alloc, digits)?;
-    out.append_bytes(&bytes, &set)
-}
-
-fn pieces(alloc: Global, field: &str) -> Result<LText, TextFault> {
-    let mut out = Builder::new(alloc);
-    for piece in field.split('}') {
-        out = append_piece(alloc, out, piece)?;
-    }
-    Ok(out.finish()?)
-}
-
-fn text_in(alloc: Global, field: &str) -> Result<LText, CallStop> {
-    text_answer(pieces(alloc, field))
-}
-
 // An integer and the set behind it.
 fn integer_in(alloc: Global, field: &str) -> Result<(i64, PSet), CallStop> {
-    let (number, rest) = field.split_once('{').unwrap_or((field, ""));
-    let digits = rest.strip_suffix('}').unwrap_or(rest);
-    let set = set_in(alloc, digits)?;
+    let (number, set) = cut_set(alloc, field)?;
     Ok((number.parse::<i64>().unwrap_or(0), set))
 }
 
@@ -198,7 +126,7 @@ fn text_call(alloc: Global, name: &str, s: &LText) -> Result<LText, CallStop> {
 fn digest_call(alloc: Global, name: &str, rest: &str) -> Result<LText, CallStop> {
     let (field, digits) = rest.split_once('\t').unwrap_or((rest, ""));
     let text = text_in(alloc, field)?;
-    let set = set_in(alloc, digits)?;
+    let set = digits_in(alloc, digits)?;
     if name == "md5" {
         md5(alloc, &text, &set)
     } else {

@@ -7,12 +7,17 @@ use Rattle.resin_tree.specs.declared.expression.PathStep.TheVariants as path_ste
 use Rattle.resin_tree.specs.declared.expression.Target.{Target}
 use Rattle.resin_tree.specs.declared.expression.Assignment.{Assignment}
 use Rattle.resin_tree.specs.declared.expression.Assignment.TheVariants as assignment
+use Rattle.resin_tree.specs.declared.expression.Combining.TheVariants.{Concat}
 use Rattle.resin_eval_merges.specs.Under.meaning.Programs.{give, ◌>>=◌}
+use Rattle.resin_eval_merges.specs.Under.value.declared.value.Value.{Value}
+use Rattle.resin_eval_merges.specs.Under.target.Paths.{no_postfix}
+use Rattle.resin_eval_merges.specs.Under.eval_nested.Under.step_parts.Appends.{appended}
 use Rattle.resin_eval_merges.specs.Under.target.declared.path.Index.TheVariants.{At, Next}
 use Rattle.resin_eval_merges.specs.Under.target.declared.path.Path.{Path}
 use Rattle.resin_eval_merges.specs.Under.target.Paths.{with_index, with_property}
 use Rattle.resin_eval_merges.specs.Under.meaning_forms.Parts.{Evals}
 use Rattle.resin_eval_merges.specs.Under.meaning_forms.Targets.{step}
+use Rattle.resin_eval_assign.specs.Compounds.{combined_there}
 use Rattle.resin_eval_merges.specs.Under.meaning_forms.Assignments.{assign, compound, coalesce_assign, changed, incremented, decremented, assignment_form}
 
 pub step_index_means : (ev : Evals) (path : Path) (z : PathStep) (e : Expr) → z ≡ path_step.Index e → step ev path z ≡ (ev.expr e >>= λ v. give (with_index (At v) path))
@@ -44,3 +49,7 @@ post_increment_means ev z t h = rw (h, assignment.outs-PostIncrement t, assignme
 
 pub post_decrement_means : (ev : Evals) (z : Assignment) (t : Target) → z ≡ assignment.PostDecrement t → assignment_form ev z ≡ (changed ev (decremented ev) t >>= λ p. give p.0)
 post_decrement_means ev z t h = rw (h, assignment.outs-PostDecrement t, assignment_form) refl
+
+-- `.=` of a variable alone
+pub append_means : (ev : Evals) (op : Combining) (name : List ℕ) (path : Path) (y : Value) → op ≡ Concat → path ≡ no_postfix → combined_there ev op name path y ≡ appended name y
+append_means ev op name path y e p = λ i. combined_there ev (e i) name (p i) y

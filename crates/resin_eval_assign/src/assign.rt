@@ -3,19 +3,33 @@
 ghost use Rattle.resin_eval_merges.specs.Under.meaning_forms.Forms as form;
 ghost use Rattle.resin_eval_merges.specs.Under.eval_nested.Nested.{Nests, means};
 ghost use Rattle.resin_eval_merges.specs.Under.eval_nested.Running.{Performs};
-ghost use Rattle.std.specs.Prelude.{if◌then◌else◌};
+ghost use Rattle.resin_tree.specs.declared.expression.Combining.{Combining as AnyCombining};
+ghost use Rattle.resin_eval_merges.specs.Under.target.Paths.{no_postfix};
+ghost use Rattle.resin_eval_assign.specs.Compounds.{combined_there};
+ghost use Rattle.std.specs.Prelude.{IsTrue, if◌then◌else◌, ◌≡◌, ◌↔◌};
 
 use resin_eval_merges::merges::Merger;
 use resin_eval_merges::under::base::{Files, Tables};
 use resin_eval_merges::under::eval_nested::nested::{Evaluator, Nested, Outcome};
 use resin_eval_merges::under::eval_nested::run::Run;
 use resin_eval_merges::under::machine::Stop;
+use resin_eval_merges::under::step_parts::appends::append;
 use resin_eval_merges::under::step_parts::reads::is_nothing;
 use resin_eval_merges::under::step_parts::statements::stored_value;
 use resin_eval_merges::under::target::{Index, Path, fetch, store};
 use resin_eval_merges::under::value::Value;
 use resin_tree::{Assignment, Combining, Expr, PathStep, Target};
 use std::alloc::Global;
+
+// Whether it is `.=` of a variable alone.
+fn is_append(op: Combining, path: &Path) -> bool
+    ensures { IsTrue result ↔ ((op ≡ AnyCombining.Concat) × (path.now ≡ no_postfix)) }
+{
+    match op {
+        Combining::Concat => path.is_alone(),
+        _ => false,
+    }
+}
 
 /// Assignments, by an evaluator.
 #[derive(Drop)]
@@ -78,9 +92,27 @@ impl<
     {
         let path = self.steps(run, t.path.as_slice())?;
         let y = self.by.expr(run, e)?;
-        let x = fetch(self.by.alloc, &mut run.machine, &t.variable, &path)?;
-        let v = Merger { by: self.by }.combined(run, op, &x, &y)?;
-        stored_value(self.by.alloc, &mut run.machine, t, &path, v)
+        self.combine(run, op, t, &path, &y)
+    }
+
+    // The old value and the right side are combined, and stored. Behind the text of a variable alone a text is put in its place.
+    fn combine(
+        &self,
+        run: &mut Run<F, T>,
+        op: Combining,
+        t: &Target,
+        path: &Path,
+        y: &Value,
+    ) -> Result<Value, Stop>
+        requires { Nests F.Files T.Tables N.pre N.post self.now.by.now }
+        ensures { Performs F.Files T.Tables (combined_there (means self.now.by.now) op t.now.variable path.now y.now) run.old result run.new }
+    {
+        if is_append(op, path) {
+            return append(self.by.alloc, &mut run.machine, t, y);
+        }
+        let x = fetch(self.by.alloc, &mut run.machine, &t.variable, path)?;
+        let v = Merger { by: self.by }.combined(run, op, &x, y)?;
+        stored_value(self.by.alloc, &mut run.machine, t, path, v)
     }
 
     // `t ??= e`: the right side is evaluated only where the target is null.

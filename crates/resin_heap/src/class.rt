@@ -12,6 +12,7 @@ use resin_items::SharedBytes;
 use resin_tree::{ClassDecl, Function};
 use std::alloc::{AllocError, Global};
 use std::marker::Model;
+use std::rc::Rc;
 
 /// The most methods that a class may declare.
 pub const MOST_METHODS: u32 = u32::MAX;
@@ -22,7 +23,7 @@ pub(crate) struct Class {
     declaration: ClassDecl,
     parent: Option<u32>,
     // The place of the method of each name.
-    places: IndexMap<CaselessName, u32>,
+    places: Rc<IndexMap<CaselessName, u32>>,
 }
 
 impl Model for Class {
@@ -36,7 +37,19 @@ impl Model for Class {
 
     ghost view = { λ c. (c.declaration, c.parent) };
 
-    ghost invariant = { λ c. ArePlaces c.declaration.methods c.places.entries };
+    ghost invariant = { λ c. ArePlaces c.declaration.methods c.places.value.entries };
+}
+
+impl Clone for Class {
+    ghost is_clone = { λ c copy. copy ≡ c };
+
+    fn clone(&self) -> Result<Class, AllocError> {
+        Ok(Class {
+            declaration: self.declaration.clone()?,
+            parent: self.parent,
+            places: self.places.clone()?,
+        })
+    }
 }
 
 impl Class {
@@ -52,7 +65,7 @@ impl Class {
         Ok(Class {
             declaration: declaration.clone()?,
             parent,
-            places,
+            places: Rc::new(alloc, places)?,
         })
     }
 

@@ -2,17 +2,14 @@
 ghost use Rattle.std.specs.Prelude.{◌≡◌, ◌+◌, ◌<◌, ◌++◌, ◌∷◌, [], ◌↔◌, Some, None, Err, IfOk, IfErr, IfSome, IsSome, IsTrue, OnOk, OnErr, length, reverse, slice_get};
 ghost use Rattle.resin_scan.specs.Words.{IsName};
 ghost use Rattle.resin_heap.specs.Classes.{class_names, find_class, parent_in, parent_of, is_a, line, method_of, function_at, NamesNoParent};
-ghost use Rattle.std.specs.Option.{option_map};
-ghost use Rattle.resin_heap.specs.Prelude.{prelude, StartsWithPrelude, number_of, name_of, parent_class, declaration_of};
-ghost use Rattle.resin_heap.specs.Tables.{declared, with_class, IsKept};
+ghost use Rattle.resin_heap.specs.Prelude.{prelude, StartsWithPrelude};
 
 use crate::class::{Class, MOST_METHODS};
-use crate::names::{CaselessName, SoughtName, place_of};
-use crate::prelude::{PRELUDE_LEN, PreludeClass};
-use indexmap::IndexMap;
+use crate::table::ClassTable;
 use resin_tree::{ClassDecl, Function};
 use std::alloc::{AllocError, Global};
 use std::marker::Model;
+use std::rc::Rc;
 
 /// The most classes that a request may have.
 pub const MOST_CLASSES: u32 = u32::MAX;
@@ -46,11 +43,10 @@ pub struct MethodAt {
 }
 
 /// The classes of a request, numbered from 0 in the order of their declarations, those of the runtime first. Contracts see the list of the
-/// declarations. Names ignore ASCII case.
+/// declarations. Names ignore ASCII case. Copies share their classes until one of them declares another.
 #[derive(Drop)]
 pub struct Classes {
-    table: IndexMap<CaselessName, Class>,
-    alloc: Global,
+    table: Rc<ClassTable>,
 }
 
 impl Model for Classes {
@@ -61,11 +57,17 @@ impl Model for Classes {
 
     ghost coded = { table_code };
 
-    ghost use Rattle.resin_heap.specs.Tables.{declared, IsTable};
+    ghost view = { λ c. c.table.value };
+}
 
-    ghost view = { λ c. declared c.table.entries };
+impl Clone for Classes {
+    ghost is_clone = { λ c copy. copy ≡ c };
 
-    ghost invariant = { λ c. IsTable c.table.entries };
+    /// One more owner of the same classes. It fails only where the count of owners is full.
+    fn clone(&self) -> Result<Classes, AllocError> {
+        let table = self.table.clone()?;
+        Ok(Classes { table })
+    }
 }
 
 impl Classes {
@@ -73,12 +75,10 @@ impl Classes {
     pub fn new(alloc: Global) -> Result<Classes, AllocError>
         ensures { IfOk result (λ classes. classes ≡ prelude) }
     {
-        let mut table = IndexMap::new(alloc);
-        for number in 0..PRELUDE_LEN {
-            let class = PreludeClass::numbered(number).unwrap();
-            add_prelude(alloc, &mut table, class)?;
-        }
-        Ok(Classes { table, alloc })
+        let table = ClassTable::new(alloc)?;
+        Ok(Classes {
+            table: Rc::new(alloc, table)?,
+        })
     }
 
     /// How many classes there are. Those of the runtime are always the first.
@@ -86,7 +86,7 @@ impl Classes {
         ensures value { result ≡ length self.now }
         ensures begins { StartsWithPrelude self.now }
     {
-        self.table.len() as u32
+        self.table.len()
     }
 
     /// The number of the class of a name, in any case of its ASCII letters; `None` exactly where there is none.
@@ -94,10 +94,7 @@ impl Classes {
         ensures value { result ≡ find_class self.now name.now }
         ensures within { IfSome result (λ c. c < length self.now) }
     {
-        match place_of(&self.table, SoughtName::lent(name)) {
-            Some(i) => Some(i as u32),
-            None => None,
-        }
+        self.table.find(name)
     }
 
     /// Declares a class, and answers its number. `Redeclared` comes exactly where a class of its name is there, `NoParent` exactly where none is and
@@ -143,7 +140,8 @@ impl Classes {
         ensures ok { OnOk result (self.new ≡ self.old ++ c.now ∷ []) }
         ensures err { OnErr result (self.new ≡ self.old) }
     {
-        add(self.alloc, &mut self.table, c, parent)
+        let table = Rc::make_mut(&mut self.table)?;
+        table.append(c, parent)
     }
 
     // A class with what was found out about it.
@@ -152,8 +150,7 @@ impl Classes {
         ensures declared { slice_get self.now c ≡ Some result.now.0 }
         ensures under { result.now.1 ≡ parent_of self.now c }
     {
-        let (_, class) = self.table.get_index(c as usize).unwrap();
-        class
+        self.table.class(c)
     }
 
     /// The declaration of a class, as it was declared.
@@ -236,47 +233,4 @@ impl Classes {
         numbers.reverse();
         Ok(numbers)
     }
-}
-
-// Puts a class last whose name is new.
-fn add(
-    alloc: Global,
-    table: &mut IndexMap<CaselessName, Class>,
-    c: &ClassDecl,
-    parent: Option<u32>,
-) -> Result<(), AllocError>
-    requires few_methods { length c.now.methods < MOST_METHODS }
-    requires fresh { find_class (declared table.old.entries) c.now.name ≡ None }
-    requires kept { IsKept table.old.entries }
-    ensures ok { OnOk result (table.new.entries ≡ with_class table.old.entries c.now parent) }
-    ensures err { OnErr result (table.new.entries ≡ table.old.entries) }
-{
-    let class = Class::new(alloc, c, parent)?;
-    table.insert(CaselessName::kept(c.name.bytes()?), class)?;
-    Ok(())
-}
-
-// The number of the parent of a class of the runtime.
-fn parent_number(class: PreludeClass) -> Option<u32>
-    ensures { result ≡ option_map number_of (parent_class class) }
-{
-    match class.parent() {
-        Some(parent) => Some(parent.number()),
-        None => None,
-    }
-}
-
-// Puts a class of the runtime last.
-fn add_prelude(
-    alloc: Global,
-    table: &mut IndexMap<CaselessName, Class>,
-    class: PreludeClass,
-) -> Result<(), AllocError>
-    requires fresh { find_class (declared table.old.entries) (name_of class) ≡ None }
-    requires kept { IsKept table.old.entries }
-    ensures { OnOk result (table.new.entries
-        ≡ with_class table.old.entries (declaration_of class) (option_map number_of (parent_class class))) }
-{
-    let declaration = class.declaration(alloc)?;
-    add(alloc, table, &declaration, parent_number(class))
 }

@@ -3,6 +3,7 @@
 //!
 //! Contracts see the classes as the list of their declarations (`specs/Classes.antt`), and objects as a class with fields by name
 //! (`specs/Objects.antt`). `Classes` finds a class and a method as PHP does, through the parents; `Heap` keeps every object that was made.
+//! `RuntimeClasses` holds the runtime's own classes once, for all requests of a site.
 //! `class_laws` and `object_laws` say what these definitions come to (`specs/Laws.antt`). `specs/Prelude.antt` has the runtime's own classes.
 #![tactic(auto)]
 
@@ -13,6 +14,8 @@ mod heap;
 mod laws;
 mod names;
 mod prelude;
+mod runtime;
+mod table;
 pub mod under;
 
 pub use class::MOST_METHODS;
@@ -21,3 +24,4 @@ pub use fields::ObjectFields;
 pub use heap::{Heap, MOST_OBJECTS, Object};
 pub use laws::{class_laws, object_laws};
 pub use prelude::{PRELUDE, PRELUDE_LEN, PreludeClass, PreludeMethod};
+pub use runtime::RuntimeClasses;

@@ -15,6 +15,7 @@ ghost use Rattle.resin_heap.specs.Names.{same_name, fed_name, same_name_equiv, s
 
 use indexmap::{Equivalent, IndexMap};
 use resin_items::SharedBytes;
+use std::alloc::AllocError;
 use std::hash::{Hash, Hasher};
 use std::marker::Model;
 
@@ -37,6 +38,16 @@ impl CaselessName {
         ensures { result ≡ bytes }
     {
         CaselessName { bytes }
+    }
+}
+
+impl Clone for CaselessName {
+    ghost is_clone = { λ n copy. copy ≡ n };
+
+    fn clone(&self) -> Result<CaselessName, AllocError> {
+        Ok(CaselessName {
+            bytes: self.bytes.clone()?,
+        })
     }
 }
 

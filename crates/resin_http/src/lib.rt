@@ -4,6 +4,16 @@
 //! `specs/Head.antt` and of fields in `specs/Fields.antt`). The answers of a stream do not depend on how it is cut (`answers_grow`), and a `Mark`
 //! keeps how far it was read (`specs/Marks.antt`). `inputs` has what scripts see (`specs/Inputs.antt`), `response_text` what goes out
 //! (`specs/Response.antt`).
+//!
+//! ```rust
+//! match next_request(alloc, stream)? {
+//!     Step::Need => {} // more bytes decide it
+//!     Step::Got { request, used } => {
+//!         let arrays = inputs(alloc, &request)?; // the next request begins behind `used` bytes
+//!     }
+//!     Step::Refuse { status } => {} // 431, 400, 501 or 413; nothing behind it counts
+//! }
+//! ```
 #![tactic(auto)]
 
 mod arrays;

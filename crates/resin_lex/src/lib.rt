@@ -3,6 +3,14 @@
 //! `specs/Grammar.antt` is the lexical grammar, as a relation: what may stand at the front of a text and what may follow; `specs/Marks.antt` has
 //! the operators and brackets. `tokens` gives the tokens of a text exactly where it has them, and otherwise the place of its first lexical fault
 //! (`specs/Lexes.antt`); `one_reading` says that a text is read in one way. `specs/Lines.antt` says in which line a place stands.
+//!
+//! ```rust
+//! let list = tokens(alloc, b"<?php $a = 1;")?;
+//! for token in list.tokens.as_slice() {
+//!     // `$a` from 6 to 8, `=` from 9 to 10, `1` from 11 to 12, `;` from 12 to 13
+//! }
+//! let fault = tokens(alloc, b"<?php ;'abc"); // Err(ParseFault::Syntax { offset: 7 }): the quote that stays open
+//! ```
 #![tactic(auto)]
 
 pub mod front;

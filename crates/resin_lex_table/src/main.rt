@@ -7,9 +7,10 @@
 //! the lexer's tests.
 #![tactic(auto)]
 
-ghost use Rattle.std.specs.Prelude.{◌<◌, ◌≤◌, length};
+ghost use Rattle.std.specs.Prelude.{◌≤◌, length};
 
 use resin_lex::{ParseFault, TokenKind, TokenList, line_of, token_lines, tokens, tokens_and_fault};
+use resin_table_rows::{bytes_in, cut, repeat_in};
 use std::alloc::{AllocError, Global};
 use std::io;
 
@@ -76,65 +77,15 @@ fn answer(alloc: Global, source: &[u8]) -> Result<String, AllocError> {
     }
 }
 
-fn hexadecimal(b: u8) -> u8
-    ensures { result < 16 }
-{
-    match b {
-        b'0'..=b'9' => b - b'0',
-        b'a'..=b'f' => b - b'a' + 10,
-        _ => 0,
-    }
-}
-
-/// The byte that an escape stands for, and how many bytes it takes.
-fn escaped(s: &[u8]) -> (u8, usize)
-    requires { 0 < length s.now }
-    ensures { 0 < result.1 }
-{
-    match s {
-        [b'\\', b'x', high, low, ..] => (16 * hexadecimal(*high) + hexadecimal(*low), 4),
-        [b'\\', b'n', ..] => (b'\n', 2),
-        [b'\\', b'r', ..] => (b'\r', 2),
-        [b'\\', b't', ..] => (b'\t', 2),
-        [b'\\', b'\\', ..] => (b'\\', 2),
-        _ => (s[0], 1),
-    }
-}
-
-fn unescaped(alloc: Global, line: &[u8]) -> Result<Vec<u8>, AllocError> {
-    let mut out = Vec::new(alloc);
-    let mut skip = 0usize;
-    for i in 0..line.len() {
-        if skip > 0 {
-            skip -= 1;
-        } else {
-            let (b, taken) = escaped(&line[i..]);
-            out.push(b)?;
-            skip = taken - 1;
-        }
-    }
-    Ok(out)
-}
-
-fn decimal_of(digits: &[u8]) -> u32 {
-    digits.iter().fold(
-        0,
-        |n: u32, b| n
-            .wrapping_mul(10)
-            .wrapping_add((*b).wrapping_sub(b'0') as u32),
-    )
-}
-
 /// The text of a line of the long form: its front, its part so many times, its back.
-fn repeated(alloc: Global, line: &[u8]) -> Result<Vec<u8>, AllocError> {
-    let mut pieces = line.split(|b| *b == b'@');
-    let count = decimal_of(pieces.next().unwrap_or(&[]));
-    let mut out = unescaped(alloc, pieces.next().unwrap_or(&[]))?;
-    let part = unescaped(alloc, pieces.next().unwrap_or(&[]))?;
-    for _ in 0..count {
+fn repeated(alloc: Global, line: &str) -> Result<Vec<u8>, AllocError> {
+    let repeat = repeat_in(line);
+    let mut out = bytes_in(alloc, repeat.front)?;
+    let part = bytes_in(alloc, repeat.part)?;
+    for _ in 0..repeat.count {
         out.extend_from_slice(&part)?;
     }
-    out.extend_from_slice(&unescaped(alloc, pieces.next().unwrap_or(&[]))?)?;
+    out.extend_from_slice(&bytes_in(alloc, repeat.back)?)?;
     Ok(out)
 }
 
@@ -191,32 +142,31 @@ fn lines(alloc: Global, source: &[u8]) -> Result<String, AllocError>
 }
 
 /// The answer to a line `QUESTION@SOURCE`, of which the first `@` is left out.
-fn answer_about(alloc: Global, line: &[u8]) -> Result<String, AllocError> {
-    let mut pieces = line.splitn(2, |b| *b == b'@');
-    let question = pieces.next().unwrap_or(&[]);
-    let source = unescaped(alloc, pieces.next().unwrap_or(&[]))?;
+fn answer_about(alloc: Global, line: &str) -> Result<String, AllocError> {
+    let (question, source) = cut(line, '@');
+    let source = bytes_in(alloc, source)?;
     if source.len() > 16_777_216 {
         return String::from_str(alloc, "too long");
     }
     match question {
-        b"front" => front(alloc, &source),
-        b"places" => place_lines(alloc, &source),
-        b"lines" => lines(alloc, &source),
+        "front" => front(alloc, &source),
+        "places" => place_lines(alloc, &source),
+        "lines" => lines(alloc, &source),
         _ => counted(alloc, &repeated(alloc, line)?),
     }
 }
 
-fn answer_to(alloc: Global, line: &[u8]) -> Result<String, AllocError> {
-    match line {
-        [b'@', about @ ..] => answer_about(alloc, about),
-        _ => answer(alloc, &unescaped(alloc, line)?),
+fn answer_to(alloc: Global, line: &str) -> Result<String, AllocError> {
+    match line.strip_prefix('@') {
+        Some(about) => answer_about(alloc, about),
+        None => answer(alloc, &bytes_in(alloc, line)?),
     }
 }
 
 fn main(rt: HostRuntime) -> io::Result<()> {
     for line in rt.lines(rt.alloc()) {
         let line = line?;
-        let text = answer_to(rt.alloc(), line.as_bytes())?;
+        let text = answer_to(rt.alloc(), line.as_str())?;
         rt.println(text)?;
     }
     Ok(())

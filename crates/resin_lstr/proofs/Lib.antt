@@ -6,3 +6,4 @@ pub mod Distinct
 pub mod Ranges
 pub mod Rows
 pub mod Pieces
+pub mod Joins

@@ -89,3 +89,7 @@ module _ (bs : List ℕ) (rs : List Run) (are : AreRunsOf (length bs) rs) {t : T
 
   pub unmarked_text : (n : ℕ) (new : List Run) → spell 0 new ≡ map (λ s. remove s n) (spell 0 rs) → text_of bs new ≡ unmarked n t
   unmarked_text n new e = ap (zip bs) e ∙ zip-map_second (λ (s : NumberSet). remove s n) bs (spell 0 rs) ∙ ap (unmarked n) is
+
+-- bytes of one set
+pub one_set_text : (bs cs : List ℕ) (rs : List Run) (s : NumberSet) → bs ≡ cs → spell 0 rs ≡ replicate (length cs) s → text_of bs rs ≡ carrying s cs
+one_set_text bs cs rs s is e = ap (λ xs. zip xs (spell 0 rs)) is ∙ ap (zip cs) e ∙ zip-replicate cs s

@@ -7,3 +7,4 @@ pub mod Faults
 pub use Rattle.resin_lstr.specs.Faults.{GivesText}
 pub mod Tables
 pub use Rattle.resin_lstr.specs.Tables.{identity, replaced, rows_from}
+pub mod Keeping

@@ -1,5 +1,5 @@
 -- Runs: lists of an end and a set, which spell the list of sets that repeats each set up to its end.
-use Rattle.std.specs.Prelude.{ℕ, ◌-◌, ◌<◌, ◌≤◌, ◌≡◌, ◌≢◌, List, [], ◌∷◌, ◌++◌, replicate, length}
+use Rattle.std.specs.Prelude.{ℕ, ◌+◌, ◌-◌, ◌<◌, ◌≤◌, ◌≡◌, ◌≢◌, List, [], ◌∷◌, ◌++◌, map, replicate, length}
 use Rattle.std.specs.List.{zip}
 use Rattle.resin_label.specs.Sets.{NumberSet}
 use Rattle.resin_lstr.specs.declared.text.Run.{Run}
@@ -39,6 +39,16 @@ pub record AreRunsOf (n : ℕ) (rs : List Run) : Type 0 where
 abbrev pub text_of : List ℕ → List Run → Text
 text_of bs rs = zip bs (spell 0 rs)
 
+-- the runs, each so much later
+abbrev pub shifted : ℕ → List Run → List Run
+shifted by rs = map (λ r. record { end = by + r.end; set = r.set }) rs
+
+-- runs that spell what the runs rs spell and then what the runs qs spell
+pub record AreJoined (rs qs new : List Run) : Type 0 where
+  pub coalesced : IsCoalesced 0 new
+  pub spelled : spell 0 new ≡ spell 0 rs ++ spell 0 qs
+  pub ends : last_end 0 new ≡ last_end 0 rs + last_end 0 qs
+
 -- n runs spell the sets, and no fewer do
 pub record IsLeastCount (sets : List NumberSet) (n : ℕ) : Type 0 where
   pub reached : (rs : List Run) × IsRising 0 rs × (spell 0 rs ≡ sets) × (length rs ≡ n)
@@ -49,3 +59,8 @@ abbrev pub EndsWith : NumberSet → List Run → Type 0
 EndsWith s [] = ⊥
 EndsWith s (r ∷ []) = r.set ≡ s
 EndsWith s (r ∷ q ∷ rs) = EndsWith s (q ∷ rs)
+
+-- the last of the runs rs has the set of the first of the others
+abbrev pub Meet : List Run → List Run → Type 0
+Meet rs [] = ⊥
+Meet rs (q ∷ qs) = EndsWith q.set rs

@@ -5,6 +5,9 @@ ghost use Rattle.resin_lstr.specs.Tables.{replacement};
 ghost use Rattle.resin_lstr.specs.Faults.{GivesText};
 ghost use Rattle.std.specs.List.{flat_map};
 
+use crate::body::TextBody;
+use crate::kept_bytes::KeptBytes;
+use crate::kept_runs::KeptRuns;
 use crate::limits::LONGEST;
 use crate::runs::{append_runs, push_run};
 use crate::table::ByteTable;
@@ -12,7 +15,6 @@ use crate::text::{LText, Run, TextFault};
 use resin_label::PSet;
 use std::alloc::{AllocError, Global};
 use std::marker::Model;
-use std::rc::RcSlice;
 
 /// A labelled text under way. Joining many pieces takes time in proportion to the bytes and runs of the pieces. A call that
 /// fails drops what was made so far; the pieces stay as they were.
@@ -80,7 +82,7 @@ impl Builder {
         if to - from > LONGEST - self.len() {
             return Err(TextFault::TooLong);
         }
-        Ok(self.add_part(t, from, to)?)
+        Ok(self.add_part(t.body(), from, to)?)
     }
 
     /// Puts `bytes` last, each with the set `set`. `TooLong` comes where the text would pass 16,777,216 bytes.
@@ -94,7 +96,12 @@ impl Builder {
     }
 
     // The same where there is room.
-    pub(crate) fn add_part(self, t: &LText, from: usize, to: usize) -> Result<Builder, AllocError>
+    pub(crate) fn add_part(
+        self,
+        t: &TextBody,
+        from: usize,
+        to: usize,
+    ) -> Result<Builder, AllocError>
         requires ordered { from ≤ to }
         requires within { to ≤ length t.now }
         requires short { length self + (to - from) ≤ LONGEST }
@@ -105,8 +112,8 @@ impl Builder {
             mut bytes,
             mut runs,
         } = self;
-        append_runs(&mut runs, &t.runs, from as u32, to as u32)?;
-        bytes.extend_from_slice(&t.bytes[from..to])?;
+        append_runs(&mut runs, t.runs.as_slice(), from as u32, to as u32)?;
+        bytes.extend_from_slice(&t.bytes.as_slice()[from..to])?;
         Ok(Builder { bytes, runs })
     }
 
@@ -145,9 +152,17 @@ impl Builder {
     pub fn finish(self) -> Result<LText, AllocError>
         ensures { IfOk result (λ t. t ≡ self) }
     {
+        let alloc = *self.bytes.allocator();
+        LText::of(alloc, self.body()?)
+    }
+
+    // What its copies share.
+    fn body(self) -> Result<TextBody, AllocError>
+        ensures { IfOk result (λ t. t ≡ self) }
+    {
         let Builder { bytes, runs } = self;
-        let bytes = RcSlice::from_vec(bytes)?;
-        let runs = RcSlice::from_vec(runs)?;
-        Ok(LText { bytes, runs })
+        let bytes = KeptBytes::from_vec(bytes)?;
+        let runs = KeptRuns::from_vec(runs)?;
+        Ok(TextBody { bytes, runs })
     }
 }

@@ -1,11 +1,11 @@
 //! Runs of equal sets.
-ghost use Rattle.std.specs.Prelude.{◌≡◌, ℕ, ◌+◌, ◌-◌, ◌<◌, ◌≤◌, ◌++◌, ◌↔◌, length, take, drop, map, position, replicate, nat_eq, OnOk, IfOk, IfSome, IsTrue};
+ghost use Rattle.std.specs.Prelude.{◌≡◌, ℕ, ◌+◌, ◌-◌, ◌<◌, ◌≤◌, ◌++◌, ◌↔◌, length, take, drop, map, position, replicate, nat_eq, OnOk, OnErr, IfOk, IfSome, IsTrue};
 ghost use Rattle.std.specs.List.{flat_map, fold, prefix_len};
 ghost use Rattle.indexmap.specs.IndexSet.{insert_key};
 ghost use Rattle.resin_label.specs.Sets.{NumberSet, contains, insert, remove, numbers, same};
 ghost use Rattle.resin_lstr.specs.declared.text.Run.{Run};
 ghost use Rattle.resin_lstr.specs.Texts.{LONGEST, distinct, first_range};
-ghost use Rattle.resin_lstr.specs.Runs.{spell, last_end, IsCoalesced, EndsWith};
+ghost use Rattle.resin_lstr.specs.Runs.{spell, last_end, shifted, IsCoalesced, EndsWith, Meet, AreJoined};
 
 use crate::lists::{Numbers, Sets};
 use crate::text::Run;
@@ -41,6 +41,7 @@ pub(crate) fn push_run(runs: &mut Vec<Run>, end: u32, set: PSet) -> Result<(), A
     ensures spelled { OnOk result (spell 0 runs.new.items
         ≡ spell 0 runs.old.items ++ replicate (end - last_end 0 runs.old.items) set) }
     ensures ends { OnOk result (last_end 0 runs.new.items ≡ end) }
+    ensures err { OnErr result (runs.new.items ≡ runs.old.items) }
 {
     if end == end_of(runs) {
         return Ok(());
@@ -104,6 +105,64 @@ pub(crate) fn append_runs(
         let to = run.end.min(hi).saturating_sub(lo);
         push_run(out, base + to, run.set.clone()?)?;
     }
+    Ok(())
+}
+
+// The runs, each so much later.
+fn shifted(alloc: Global, runs: &[Run], by: u32) -> Result<Vec<Run>, AllocError>
+    requires coalesced { IsCoalesced 0 runs.now }
+    requires short { by + last_end 0 runs.now ≤ LONGEST }
+    ensures { IfOk result (λ v. v.items ≡ shifted by runs.now) }
+{
+    let mut out = Vec::with_capacity(alloc, runs.len())?;
+    for run in runs {
+        out.push(Run {
+            end: by + run.end,
+            set: run.set.clone()?,
+        })?;
+    }
+    Ok(out)
+}
+
+// Puts other runs in the place of the last one. After want of memory `out` is as before.
+fn replace_last(out: &mut Vec<Run>, tail: Vec<Run>) -> Result<(), AllocError>
+    ensures ok { OnOk result (out.new.items ≡ take (length out.old.items - 1) out.old.items ++ tail.items) }
+    ensures err { OnErr result (out.new.items ≡ out.old.items) }
+{
+    let mut tail = tail;
+    out.reserve(tail.len())?;
+    out.pop();
+    out.append(&mut tail)?;
+    Ok(())
+}
+
+// Whether the first of `more` has the set of the last run.
+fn meet(runs: &[Run], more: &[Run]) -> bool
+    ensures { IsTrue result ↔ Meet runs.now more.now }
+{
+    match more {
+        [] => false,
+        [first, ..] => ends_with(runs, &first.set),
+    }
+}
+
+// Puts `more` last, counted from the end of `out`. After want of memory `out` is as before.
+pub(crate) fn extend_runs(alloc: Global, out: &mut Vec<Run>, more: &[Run]) -> Result<(), AllocError>
+    requires coalesced { IsCoalesced 0 out.old.items }
+    requires more_coalesced { IsCoalesced 0 more.now }
+    requires short { last_end 0 out.old.items + last_end 0 more.now ≤ LONGEST }
+    ensures joined { OnOk result (AreJoined out.old.items more.now out.new.items) }
+    ensures err { OnErr result (out.new.items ≡ out.old.items) }
+{
+    if let [only] = more {
+        return push_run(out, end_of(out) + only.end, only.set.clone()?);
+    }
+    let mut tail = shifted(alloc, more, end_of(out))?;
+    if meet(out, more) {
+        replace_last(out, tail)?;
+        return Ok(());
+    }
+    out.append(&mut tail)?;
     Ok(())
 }
 

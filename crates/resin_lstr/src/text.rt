@@ -1,20 +1,21 @@
 //! Labelled texts.
-ghost use Rattle.std.specs.Prelude.{◌≡◌, ◌==◌, ℕ, ◌-◌, ◌<◌, ◌≤◌, ◌++◌, length, map, slice_index, slice_index_or, slice_range, IfOk};
+ghost use Rattle.std.specs.Prelude.{◌≡◌, ◌==◌, ℕ, ◌+◌, ◌<◌, ◌≤◌, ◌++◌, length, slice_index, slice_index_or, slice_range, ◌↔◌, Err, IfOk, OnOk, OnErr};
+ghost use Rattle.std.specs.List.{zip};
+ghost use Rattle.std.specs.Rc.{rc_slice_items};
 ghost use Rattle.resin_label.specs.Sets.{empty};
 ghost use Rattle.resin_lstr.specs.Texts.{bytes_of, sets_of, carrying, marked, unmarked, mapped, with_parts, ArePartsFrom, distinct_sets, policies_in_order, first_run};
 ghost use Rattle.resin_lstr.specs.Tables.{replaced};
 ghost use Rattle.resin_lstr.specs.Faults.{GivesText};
 
+use crate::body::TextBody;
 use crate::builder::Builder;
 use crate::limits::LONGEST;
 use crate::lists::{Numbers, Parts, Sets};
-use crate::replace::replace_each;
-use crate::runs::{numbers_once, range_holding, run_at, runs_with, runs_without, sets_once};
 use crate::table::ByteTable;
 use resin_label::PSet;
 use std::alloc::{AllocError, Global};
 use std::marker::Model;
-use std::rc::RcSlice;
+use std::rc::{Rc, RcSlice};
 
 /// Why a call gives no text.
 #[derive(Clone, Copy, Debug, PartialEq, Eq)]
@@ -42,33 +43,56 @@ pub struct Run {
     pub set: PSet,
 }
 
+impl Clone for Run {
+    ghost is_clone = { λ r copy. copy ≡ r };
+
+    fn clone(&self) -> Result<Run, AllocError> {
+        let set = self.set.clone()?;
+        Ok(Run { end: self.end, set })
+    }
+}
+
 /// A text whose bytes carry sets of policy numbers, at most 16,777,216 bytes long. The ends of its runs rise, the last is
-/// the length, and neighbouring runs differ in their sets; the empty text has no run. Bytes and runs are shared: a copy
-/// of a text copies neither.
-#[derive(Drop)]
+/// the length, and neighbouring runs differ in their sets; the empty text has no run. Copies of a text share its bytes and
+/// its runs. A value of a script holds one pointer of it, so that values stay small on the stack.
 pub struct LText {
-    pub bytes: RcSlice<u8>,
-    pub runs: RcSlice<Run>,
+    body: Rc<TextBody>,
+}
+
+impl Drop for LText {
+    fn drop(self) {
+        let LText { body: _ } = self;
+    }
 }
 
 impl Model for LText {
-    ghost use Rattle.std.specs.Prelude.{length};
-    ghost use Rattle.std.specs.Rc.{rc_slice_items};
     ghost use Rattle.resin_lstr.specs.Texts.{Text, text_code};
 
     ghost Value = { Text };
 
     ghost coded = { text_code };
 
-    ghost use Rattle.resin_lstr.specs.Runs.{text_of, AreRunsOf};
-
-    ghost view = { λ a. text_of (rc_slice_items a.bytes) (rc_slice_items a.runs) };
-
-    ghost invariant = { λ a. AreRunsOf (length (rc_slice_items a.bytes)) (rc_slice_items a.runs) };
+    ghost view = { λ a. a.body.value };
 }
 
 impl LText {
     ghost use Rattle.resin_lstr.specs.Runs.{AreRunsOf, IsLeastCount, spell};
+
+    // The text with this body.
+    pub(crate) fn of(alloc: Global, body: TextBody) -> Result<LText, AllocError>
+        ensures { IfOk result (λ t. t ≡ body) }
+    {
+        Ok(LText {
+            body: Rc::new(alloc, body)?,
+        })
+    }
+
+    // What copies of the text share.
+    pub(crate) fn body(&self) -> &TextBody
+        ensures { result.now ≡ self.now }
+    {
+        self.body.as_ref()
+    }
 
     /// Each byte of `b` with the empty set. `TooLong` comes where `b` passes 16,777,216 bytes.
     pub fn plain(alloc: Global, b: &[u8]) -> Result<LText, TextFault>
@@ -81,11 +105,16 @@ impl LText {
     pub fn with_set(alloc: Global, b: &[u8], s: &PSet) -> Result<LText, TextFault>
         ensures { GivesText result (carrying s.now b.now) }
     {
-        if b.len() > LONGEST {
-            return Err(TextFault::TooLong);
-        }
-        let out = Builder::new(alloc).add_bytes(b, s)?;
-        Ok(out.finish()?)
+        let body = TextBody::with_set(alloc, b, s)?;
+        Ok(LText::of(alloc, body)?)
+    }
+
+    /// Each of the bytes with the empty set. They are shared, not copied. `TooLong` comes where they pass 16,777,216.
+    pub fn shared(alloc: Global, bytes: RcSlice<u8>) -> Result<LText, TextFault>
+        ensures { GivesText result (carrying empty (rc_slice_items bytes)) }
+    {
+        let body = TextBody::shared(bytes)?;
+        Ok(LText::of(alloc, body)?)
     }
 
     /// The number of bytes, at most 16,777,216.
@@ -93,7 +122,7 @@ impl LText {
         ensures value { result ≡ length self.now }
         ensures short { result ≤ LONGEST }
     {
-        self.bytes.len()
+        self.body().len()
     }
 
     /// Whether there is no byte.
@@ -107,7 +136,7 @@ impl LText {
     pub fn bytes(&self) -> &[u8]
         ensures { result.now ≡ bytes_of self.now }
     {
-        self.bytes.as_slice()
+        self.body().bytes()
     }
 
     /// The runs: the sets of the bytes, each up to its end.
@@ -116,7 +145,7 @@ impl LText {
         ensures spelled { spell 0 result.now ≡ sets_of self.now }
         ensures least { IsLeastCount (sets_of self.now) (length result.now) }
     {
-        self.runs.as_slice()
+        self.body().runs()
     }
 
     /// The byte at `i`.
@@ -124,8 +153,7 @@ impl LText {
         requires { i < length self.now }
         ensures { result ≡ slice_index (bytes_of self.now) i }
     {
-        let _len = self.len();
-        self.bytes[i]
+        self.body().byte_at(i)
     }
 
     /// The set of the byte at `i`.
@@ -133,17 +161,46 @@ impl LText {
         requires { i < length self.now }
         ensures { result.now ≡ slice_index_or (sets_of self.now) i empty }
     {
-        let _len = self.len();
-        let k = run_at(&self.runs, i as u32);
-        &self.runs[k].set
+        self.body().set_at(i)
     }
 
     /// This text and `o` joined. `TooLong` comes where it would pass 16,777,216 bytes.
     pub fn concat(&self, alloc: Global, o: &LText) -> Result<LText, TextFault>
         ensures { GivesText result (self.now ++ o.now) }
     {
-        let out = Builder::new(alloc).append(self)?.append(o)?;
-        Ok(out.finish()?)
+        let body = self.body().concat(alloc, o.body())?;
+        Ok(LText::of(alloc, body)?)
+    }
+
+    /// Puts `o` last. Where no one else holds this text, and it grew or was joined before, its bytes and runs grow in place. `TooLong` comes exactly
+    /// where the text would pass 16,777,216 bytes. A refusal changes nothing; clones of the text keep what they hold.
+    pub fn append(&mut self, alloc: Global, o: &LText) -> Result<(), TextFault>
+        ensures ok { OnOk result (self.new ≡ self.old ++ o.now) }
+        ensures too_long { (result ≡ Err TextFault.TooLong) ↔ (LONGEST < length (self.old ++ o.now)) }
+        ensures err { OnErr result (self.new ≡ self.old) }
+    {
+        if o.len() > LONGEST - self.len() {
+            return Err(TextFault::TooLong);
+        }
+        self.extend(alloc, o)?;
+        Ok(())
+    }
+
+    // The same where there is room.
+    fn extend(&mut self, alloc: Global, o: &LText) -> Result<(), AllocError>
+        requires { length self.old + length o.now ≤ LONGEST }
+        ensures ok { OnOk result (self.new ≡ self.old ++ o.now) }
+        ensures err { OnErr result (self.new ≡ self.old) }
+    {
+        if o.is_empty() {
+            return Ok(());
+        }
+        if self.is_empty() {
+            *self = o.clone()?;
+            return Ok(());
+        }
+        let body = Rc::make_mut(&mut self.body)?;
+        body.put_last(alloc, o.body())
     }
 
     /// The bytes from `from` to `to`, the latter not included, each with its set.
@@ -153,7 +210,7 @@ impl LText {
         ensures { IfOk result (λ t. t ≡ slice_range self.now from to) }
     {
         let _len = self.len();
-        let out = Builder::new(alloc).add_part(self, from, to)?;
+        let out = Builder::new(alloc).add_part(self.body(), from, to)?;
         out.finish()
     }
 
@@ -161,37 +218,36 @@ impl LText {
     pub fn mark(&self, alloc: Global, n: u32) -> Result<LText, AllocError>
         ensures { IfOk result (λ t. t ≡ marked n self.now) }
     {
-        let bytes = self.bytes.clone()?;
-        let runs = runs_with(alloc, &self.runs, n)?;
-        let runs = RcSlice::from_vec(runs)?;
-        Ok(LText { bytes, runs })
+        LText::of(alloc, self.body().mark(alloc, n)?)
     }
 
     /// The text with `n` in no set.
     pub fn unmark(&self, alloc: Global, n: u32) -> Result<LText, AllocError>
         ensures { IfOk result (λ t. t ≡ unmarked n self.now) }
     {
-        let bytes = self.bytes.clone()?;
-        let runs = runs_without(alloc, &self.runs, n)?;
-        let runs = RcSlice::from_vec(runs)?;
-        Ok(LText { bytes, runs })
+        LText::of(alloc, self.body().unmark(alloc, n)?)
     }
 
     /// Each byte as the table has it at its place, with its set.
     pub fn map_bytes(&self, alloc: Global, table: &[u8; 256]) -> Result<LText, AllocError>
         ensures { IfOk result (λ t. t ≡ mapped table.now self.now) }
     {
-        let bytes = by_table(alloc, &self.bytes, table)?;
-        let bytes = RcSlice::from_vec(bytes)?;
-        let runs = self.runs.clone()?;
-        Ok(LText { bytes, runs })
+        LText::of(alloc, self.body().map_bytes(alloc, table)?)
+    }
+
+    /// Other bytes, each with the set at its place. The runs are shared.
+    pub fn with_bytes(&self, alloc: Global, bytes: Vec<u8>) -> Result<LText, AllocError>
+        requires { length bytes.items ≡ length self.now }
+        ensures { IfOk result (λ t. t ≡ zip bytes.items (sets_of self.now)) }
+    {
+        LText::of(alloc, self.body().with_bytes(bytes)?)
     }
 
     /// Each byte as its bytes in the table, all with its set. `TooLong` comes where the text would pass 16,777,216 bytes.
     pub fn replace_bytes(&self, alloc: Global, table: &ByteTable) -> Result<LText, TextFault>
         ensures { GivesText result (replaced table.now self.now) }
     {
-        let out = replace_each(alloc, &self.bytes, &self.runs, table)?;
+        let out = self.body().replace_bytes(alloc, table)?;
         Ok(out.finish()?)
     }
 
@@ -220,14 +276,14 @@ impl LText {
     pub fn distinct_sets(&self, alloc: Global) -> Result<Sets, AllocError>
         ensures { IfOk result (λ sets. sets ≡ distinct_sets self.now) }
     {
-        sets_once(alloc, &self.runs)
+        self.body().distinct_sets(alloc)
     }
 
     /// The policies of the text, each once, by the first byte that carries them and then by number.
     pub fn policies_in_order(&self, alloc: Global) -> Result<Numbers, AllocError>
         ensures { IfOk result (λ list. list ≡ policies_in_order self.now) }
     {
-        numbers_once(alloc, &self.runs)
+        self.body().policies_in_order(alloc)
     }
 
     /// The first maximal range of bytes that carry `n`, as its start and its end, which is not included. `None` where no
@@ -235,30 +291,22 @@ impl LText {
     pub fn first_run_of(&self, n: u32) -> Option<(usize, usize)>
         ensures { result ≡ first_run n self.now }
     {
-        range_holding(&self.runs, n)
+        self.body().first_run_of(n)
     }
 
     /// The number of runs: the least number of runs of equal sets that spells the text.
     pub fn run_count(&self) -> usize
         ensures { IsLeastCount (sets_of self.now) result }
     {
-        self.runs.len()
+        self.body().run_count()
     }
-}
-
-// Each byte as the table has it at its place.
-fn by_table(alloc: Global, bytes: &[u8], table: &[u8; 256]) -> Result<Vec<u8>, AllocError>
-    ensures { IfOk result (λ v. v.items ≡ map (λ b. slice_index table.now b) bytes.now) }
-{
-    bytes.iter().map(|b| table[*b as usize]).collect(alloc)
 }
 
 impl Clone for LText {
     ghost is_clone = { λ s copy. copy ≡ s };
 
     fn clone(&self) -> Result<LText, AllocError> {
-        let bytes = self.bytes.clone()?;
-        let runs = self.runs.clone()?;
-        Ok(LText { bytes, runs })
+        let body = self.body.clone()?;
+        Ok(LText { body })
     }
 }

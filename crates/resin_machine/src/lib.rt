@@ -17,5 +17,6 @@ mod variables;
 
 pub use leaving::Finished;
 pub use machine::Machine;
+pub use resin_heap::RuntimeClasses;
 pub use resin_stage::Stage;
 pub use stop::Stop;

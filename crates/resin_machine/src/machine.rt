@@ -11,7 +11,7 @@ use crate::stop::Stop;
 use resin_heap::under::scalar::{ScriptFault, Ticks};
 use resin_heap::under::tree::Function;
 use resin_heap::under::value::{Arr, Value};
-use resin_heap::{Classes, Heap};
+use resin_heap::{Classes, Heap, RuntimeClasses};
 use resin_stage::Stage;
 use resin_stage::under::scope::{Chains, NameMap, Scopes};
 use std::alloc::{AllocError, Global};
@@ -98,8 +98,22 @@ impl Machine {
         ensures value { IfOk result (λ m. m ≡ new_state fuel request) }
         ensures tied { IfOk result (λ m. Tied m) }
     {
+        let runtime = RuntimeClasses::new(alloc)?;
+        Machine::begin(alloc, &runtime, fuel, request)
+    }
+
+    /// The same with classes of the runtime that were made before, for a caller that serves many requests.
+    pub fn begin(
+        alloc: Global,
+        runtime: &RuntimeClasses,
+        fuel: u32,
+        request: u64,
+    ) -> Result<Machine, AllocError>
+        ensures value { IfOk result (λ m. m ≡ new_state fuel request) }
+        ensures tied { IfOk result (λ m. Tied m) }
+    {
         let scopes = Scopes::new(alloc)?;
-        let classes = Classes::new(alloc)?;
+        let classes = runtime.classes()?;
         let mut imported = NameMap::new(alloc);
         imported.put(b"boot.php", ())?;
         let inputs = empty_inputs(alloc)?;

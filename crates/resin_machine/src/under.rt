@@ -4,7 +4,8 @@
 pub mod heap {
     pub use resin_heap::{
         ClassFault, Classes, Heap, MOST_CLASSES, MOST_METHODS, MOST_OBJECTS, MethodAt, Object,
-        ObjectFields, PRELUDE, PRELUDE_LEN, PreludeClass, PreludeMethod, class_laws, object_laws,
+        ObjectFields, PRELUDE, PRELUDE_LEN, PreludeClass, PreludeMethod, RuntimeClasses,
+        class_laws, object_laws,
     };
 }
 

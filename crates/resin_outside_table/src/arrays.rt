@@ -1,6 +1,5 @@
 //! Input arrays. An array is written as its entries, each with its key, `>`, its value and `;`: `#` stands before an integer key, and an
 //! array in brackets.
-use crate::text::push_bytes;
 use resin_inputs::under::bytes::{Bytes, Header, HeaderList};
 use resin_inputs::under::value::{Arr, Key, Value};
 use resin_inputs::{InputArrays, input_arrays};
@@ -13,14 +12,14 @@ fn push_key(out: &mut Line, key: &Key) {
             out.push('#');
             out.push_integer(*n);
         }
-        Key::Text(name) => push_bytes(out, name.as_slice()),
+        Key::Text(name) => out.push_spaced_bytes(name.as_slice()),
     }
     out.push('>');
 }
 
 fn push_text(out: &mut Line, value: &Value) {
     match value {
-        Value::Text(text) => push_bytes(out, text.bytes()),
+        Value::Text(text) => out.push_spaced_bytes(text.bytes()),
         _ => out.push('?'),
     }
 }

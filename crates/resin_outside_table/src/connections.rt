@@ -1,5 +1,5 @@
 //! Streams of connections.
-use crate::text::{number, push_bytes};
+use crate::text::number;
 use resin_table_rows::{Line, cut};
 use resin_trace::Connections;
 use std::alloc::{AllocError, Global};
@@ -20,7 +20,7 @@ fn refuse(connections: &mut Connections, conn: u16) -> Result<(), AllocError> {
 
 fn push_stream(out: &mut Line, connections: &Connections, conn: u16) {
     out.push('\'');
-    push_bytes(out, connections.stream(conn));
+    out.push_spaced_bytes(connections.stream(conn));
     out.push_str("'; ");
 }
 

@@ -1,6 +1,5 @@
 //! Keepers of files.
 use crate::streams::numbers;
-use crate::text::push_bytes;
 use resin_base::{Calls, Entry, FailList, Files, KeepFault};
 use resin_memory::{CalmFiles, FakeFiles};
 use resin_table_rows::{Line, bytes_in, cut};
@@ -40,9 +39,9 @@ pub fn push_calls(out: &mut Line, calls: &Calls) {
 // Adds an entry's bytes and its shadow text.
 fn push_entry(out: &mut Line, bytes: &[u8], shadow: &[u8]) {
     out.push('\'');
-    push_bytes(out, bytes);
+    out.push_spaced_bytes(bytes);
     out.push_str("' '");
-    push_bytes(out, shadow);
+    out.push_spaced_bytes(shadow);
     out.push('\'');
 }
 

@@ -1,6 +1,6 @@
 //! Requests of streams, and the texts of responses.
 use crate::arrays::push_arrays;
-use crate::text::{number, push_bytes};
+use crate::text::number;
 use resin_http::{
     Header, HeaderList, Mark, Method, Request, Step, inputs, next_marked, next_request,
     response_text,
@@ -85,9 +85,9 @@ fn method_name(method: Method) -> &'static str {
 fn push_headers(out: &mut Line, headers: &HeaderList) {
     for header in headers.as_slice() {
         out.push_str("; ");
-        push_bytes(out, header.name.as_slice());
+        out.push_spaced_bytes(header.name.as_slice());
         out.push('>');
-        push_bytes(out, header.value.as_slice());
+        out.push_spaced_bytes(header.value.as_slice());
     }
 }
 
@@ -95,10 +95,10 @@ fn push_headers(out: &mut Line, headers: &HeaderList) {
 fn push_parts(out: &mut Line, request: &Request) {
     out.push_str(method_name(request.method));
     out.push(' ');
-    push_bytes(out, request.target.as_slice());
+    out.push_spaced_bytes(request.target.as_slice());
     push_headers(out, &request.fields);
     out.push_str("; body ");
-    push_bytes(out, request.body.as_slice());
+    out.push_spaced_bytes(request.body.as_slice());
 }
 
 // Adds the request at the front of a stream, and how many bytes it takes.
@@ -186,6 +186,6 @@ pub fn push_response(
     fields: &str,
 ) -> Result<(), AllocError> {
     let text = response(alloc, is_head, fields)?;
-    push_bytes(out, text.as_slice());
+    out.push_spaced_bytes(text.as_slice());
     Ok(())
 }

@@ -1,6 +1,6 @@
 //! Sources and sinks.
 use crate::files::push_fault;
-use crate::text::{number, push_bytes};
+use crate::text::number;
 use resin_base::{Bytes, FailList, KeepFault, Sink, Source};
 use resin_edge::{StdSink, StdSource};
 use resin_memory::{CalmSink, CalmSource, FakeSink, FakeSource};
@@ -42,7 +42,7 @@ fn push_takes<S: Source>(
         if step == "take" {
             push_take(out, source, &mut buffer);
         } else {
-            push_bytes(out, &buffer);
+            out.push_spaced_bytes(&buffer);
         }
         out.push_str("; ");
     }
@@ -98,7 +98,7 @@ fn push_gives<S: Sink>(out: &mut Line, sink: &mut S, pieces: &str) {
 pub fn push_calm_sink(alloc: Global, out: &mut Line, pieces: &str) -> Result<(), AllocError> {
     let mut sink = CalmSink::new(alloc);
     push_gives(out, &mut sink, pieces);
-    push_bytes(out, sink.written());
+    out.push_spaced_bytes(sink.written());
     Ok(())
 }
 
@@ -112,7 +112,7 @@ pub fn push_fake_sink(
     let (chunk, fail) = cut(words, ' ');
     let mut sink = FakeSink::new(alloc, number(chunk), numbers(alloc, fail)?);
     push_gives(out, &mut sink, pieces);
-    push_bytes(out, sink.written());
+    out.push_spaced_bytes(sink.written());
     Ok(())
 }
 
@@ -128,6 +128,6 @@ pub fn push_std_sink(
         let mut sink = StdSink::new(room.as_mut_slice());
         push_gives(out, &mut sink, pieces);
     }
-    push_bytes(out, &room);
+    out.push_spaced_bytes(&room);
     Ok(())
 }

@@ -4,7 +4,6 @@ ghost use Rattle.resin_base.specs.Numbering.{AreNumbered};
 
 use crate::files::{push_calls, push_fault, push_put, push_whether};
 use crate::streams::numbers;
-use crate::text::push_bytes;
 use resin_base::{
     Bytes, Calls, Cell, Cells, Column, Columns, FailList, KeepFault, Kind, Rows, Tables,
 };
@@ -56,7 +55,7 @@ fn push_names(out: &mut Line, columns: &Columns) {
     out.push_str("columns");
     for column in columns.as_slice() {
         out.push(' ');
-        push_bytes(out, column.name.as_slice());
+        out.push_spaced_bytes(column.name.as_slice());
     }
 }
 

@@ -1,5 +1,5 @@
 //! Records of traces.
-use crate::text::{number, push_bytes};
+use crate::text::number;
 use resin_table_rows::{Line, bytes_in};
 use resin_trace::{TraceEvent, TraceFault, TraceReader};
 use std::alloc::{AllocError, Global};
@@ -21,7 +21,7 @@ fn push_whether(out: &mut Line, answer: Result<(), TraceFault>) {
 
 fn push_piece(out: &mut Line, conn: u16, bytes: &[u8]) {
     out.tell("", u64::from(conn), " '");
-    push_bytes(out, bytes);
+    out.push_spaced_bytes(bytes);
     out.push('\'');
 }
 

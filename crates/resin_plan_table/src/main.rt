@@ -13,39 +13,27 @@
 //! The output was worked out by two programs in another language: one written from the rules of the statements, and SQLite, where both mean the same.
 #![tactic(auto)]
 
-mod literals;
 mod shelf;
 mod show;
 
-use crate::literals::stored;
 use crate::shelf::Shelf;
-use crate::show::{push_answer, push_numbers};
+use crate::show::push_answer;
 use resin_base::{Calls, FailList};
-use resin_label::PSet;
-use resin_lstr::{Builder, LText, TextFault};
+use resin_lstr::LText;
 use resin_plan::exec;
-use resin_sql::{SqlFault, Stmt, read_sql};
+use resin_sql::{SqlFault, Stmt, literals, read_sql};
 use resin_table_rows::Line;
+use resin_table_sql::{plain_text, push_calls, stored_of};
 use std::alloc::{AllocError, Global};
 use std::io;
 
-/// A text without labels.
-fn plain(alloc: Global, text: &str) -> Result<LText, AllocError> {
-    let none = PSet::empty();
-    match Builder::new(alloc).append_bytes(text.as_bytes(), &none) {
-        Ok(out) => out.finish(),
-        Err(TextFault::Memory) => Err(AllocError),
-        Err(_) => Builder::new(alloc).finish(),
-    }
-}
-
 /// Adds what is told of a statement that was carried out: the keeper's calls, and their numbers.
-fn push_calls(out: &mut Line, log: Result<String, AllocError>, calls: &Calls) {
+fn push_log(out: &mut Line, log: Result<String, AllocError>, calls: &Calls) {
     out.push_str(" =");
     if let Some(log) = out.taken(log) {
         out.push_str(log.as_str());
     }
-    push_numbers(out, calls);
+    push_calls(out, calls);
 }
 
 /// Carries out a statement that was read from a text, and adds what came of it.
@@ -57,10 +45,10 @@ fn push_outcome(
     calls: &mut Calls,
 ) -> Result<(), AllocError> {
     let alloc = shelf.board.alloc;
-    let cells = stored(alloc, text, statement)?;
+    let cells = stored_of(alloc, text, literals(alloc, statement)?.as_slice())?;
     let answer = exec(alloc, statement, &cells, shelf, calls);
     push_answer(out, &answer);
-    push_calls(out, shelf.board.take_log(), calls);
+    push_log(out, shelf.board.take_log(), calls);
     Ok(())
 }
 
@@ -71,7 +59,7 @@ fn push_statement(
     shelf: &mut Shelf,
     calls: &mut Calls,
 ) -> Result<(), AllocError> {
-    let text = plain(shelf.board.alloc, field)?;
+    let text = plain_text(shelf.board.alloc, field)?;
     match read_sql(shelf.board.alloc, &text) {
         Ok(statement) => push_outcome(out, &text, &statement, shelf, calls)?,
         Err(SqlFault::Bad { offset }) => out.tell("syntax at ", offset, ""),

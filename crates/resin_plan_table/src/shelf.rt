@@ -3,11 +3,11 @@
 ghost use Rattle.std.specs.Prelude.{◌≡◌};
 ghost use Rattle.resin_base.specs.Causes.{HasCause};
 
-use crate::show::{push_bytes, push_cell};
 use resin_base::{
     Bytes, Cell, Cells, Column, Columns, FailList, KeepFault, Kind, Row, Rows, Tables,
 };
 use resin_table_rows::{Line, cut};
+use resin_table_sql::push_cell;
 use std::alloc::{AllocError, Global};
 use std::mem;
 
@@ -89,7 +89,7 @@ fn kind_word(kind: Kind) -> &'static str {
 fn push_columns(out: &mut Line, columns: &[Column]) {
     for column in columns {
         out.push(' ');
-        push_bytes(out, column.name.as_slice());
+        out.push_text_bytes(column.name.as_slice());
         out.push_str(kind_word(column.kind));
     }
 }
@@ -101,7 +101,7 @@ fn push_held_row(out: &mut Line, row: &Row) {
 
 fn push_held(out: &mut Line, table: &Held) {
     out.push('{');
-    push_bytes(out, table.name.as_slice());
+    out.push_text_bytes(table.name.as_slice());
     push_columns(out, table.columns.as_slice());
     for row in table.rows.as_slice() {
         push_held_row(out, row);
@@ -283,7 +283,7 @@ impl Board {
     fn push_call(&mut self, call: &str, name: &[u8]) {
         self.log.push_word(call);
         self.log.push(' ');
-        push_bytes(&mut self.log, name);
+        self.log.push_text_bytes(name);
     }
 
     /// Begins a call: whether it fails.

@@ -1,3 +1,4 @@
+pub mod Kept_scripts
 pub mod Lent
 pub mod Stored
 pub mod Framed

@@ -11,13 +11,13 @@ ghost use Rattle.resin_request.specs.Sessions.{in_session, session_of};
 ghost use Rattle.resin_request.specs.Sources.{run_source};
 
 use crate::paths::{BOOT_PATH, is_open, is_script};
+use crate::scripts::Scripts;
 use crate::sessions::{begin_session, end_session, session_of};
 use resin_inputs::InputArrays;
 use resin_inputs::under::lstr::LText;
 use resin_interp::inputs::set_inputs;
 use resin_interp::lent::with_run;
 use resin_interp::pages::{code_of, end_buffers, filter_read, write_page};
-use resin_interp::sources::read_source;
 use resin_interp::under::base::{Calls, Entry, Files, Tables};
 use resin_interp::under::journal::Channel;
 use resin_interp::{Machine, Run, Stop, perform, thaw_entry};
@@ -36,33 +36,43 @@ pub enum Finish {
 fn run_source<F: Files, T: Tables>(
     alloc: Global,
     run: &mut Run<F, T>,
+    scripts: &mut Scripts,
     src: &LText,
 ) -> Result<(), Stop>
     ensures { Performs F.Files T.Tables (run_source (bytes_of src.now)) run.old result run.new }
 {
     let _len = src.len();
-    let p = read_source(alloc, src.bytes())?;
-    let _flow = perform(alloc, run, &p)?;
+    let p = scripts.read(alloc, src.bytes())?;
+    let _flow = perform(alloc, run, p.get())?;
     Ok(())
 }
 
 // Runs `boot.php`, where it is there.
-fn run_boot<F: Files, T: Tables>(alloc: Global, run: &mut Run<F, T>) -> Result<(), Stop>
+fn run_boot<F: Files, T: Tables>(
+    alloc: Global,
+    run: &mut Run<F, T>,
+    scripts: &mut Scripts,
+) -> Result<(), Stop>
     ensures { Performs F.Files T.Tables run_boot run.old result run.new }
 {
     let found = run.read_file(BOOT_PATH)?;
     match found {
-        Some(e) => run_entry(alloc, run, &e),
+        Some(e) => run_entry(alloc, run, scripts, &e),
         None => Ok(()),
     }
 }
 
 // Runs the text of an entry.
-fn run_entry<F: Files, T: Tables>(alloc: Global, run: &mut Run<F, T>, e: &Entry) -> Result<(), Stop>
+fn run_entry<F: Files, T: Tables>(
+    alloc: Global,
+    run: &mut Run<F, T>,
+    scripts: &mut Scripts,
+    e: &Entry,
+) -> Result<(), Stop>
     ensures { Performs F.Files T.Tables (run_found (Some (lift e.now))) run.old result run.new }
 {
     let text = thaw_entry(alloc, &mut run.machine, e)?;
-    run_source(alloc, run, &text)
+    run_source(alloc, run, scripts, &text)
 }
 
 // The inputs pass their filters, and are set.
@@ -87,13 +97,14 @@ fn put_inputs<F: Files, T: Tables>(
 fn run_script<F: Files, T: Tables>(
     alloc: Global,
     run: &mut Run<F, T>,
+    scripts: &mut Scripts,
     path: &[u8],
     e: &Entry,
 ) -> Result<(), Stop>
     ensures { Performs F.Files T.Tables (run_script path.now (lift e.now)) run.old result run.new }
 {
     let src = code_of(alloc, run, path, e)?;
-    run_source(alloc, run, &src)
+    run_source(alloc, run, scripts, &src)
 }
 
 // A file that is no script passes the filters of files, and goes out as one write.
@@ -114,13 +125,14 @@ fn send_file<F: Files, T: Tables>(
 fn serve_file<F: Files, T: Tables>(
     alloc: Global,
     run: &mut Run<F, T>,
+    scripts: &mut Scripts,
     path: &[u8],
     e: &Entry,
 ) -> Result<(), Stop>
     ensures { Performs F.Files T.Tables (serve_file path.now (lift e.now)) run.old result run.new }
 {
     if is_script(path) {
-        run_script(alloc, run, path, e)
+        run_script(alloc, run, scripts, path, e)
     } else {
         send_file(alloc, run, path, e)
     }
@@ -130,12 +142,13 @@ fn serve_file<F: Files, T: Tables>(
 fn serve_and_end<F: Files, T: Tables>(
     alloc: Global,
     run: &mut Run<F, T>,
+    scripts: &mut Scripts,
     path: &[u8],
     e: &Entry,
 ) -> Result<(), Stop>
     ensures { Performs F.Files T.Tables (serve_and_end path.now (lift e.now)) run.old result run.new }
 {
-    serve_file(alloc, run, path, e)?;
+    serve_file(alloc, run, scripts, path, e)?;
     end_buffers(alloc, run)
 }
 
@@ -143,6 +156,7 @@ fn serve_and_end<F: Files, T: Tables>(
 fn serve_named<F: Files, T: Tables>(
     alloc: Global,
     run: &mut Run<F, T>,
+    scripts: &mut Scripts,
     name: &[u8],
     path: &[u8],
     e: &Entry,
@@ -150,7 +164,7 @@ fn serve_named<F: Files, T: Tables>(
     ensures { Performs F.Files T.Tables (in_session (Some name.now) (serve_and_end path.now (lift e.now))) run.old result run.new }
 {
     let found = begin_session(alloc, run, name)?;
-    serve_and_end(alloc, run, path, e)?;
+    serve_and_end(alloc, run, scripts, path, e)?;
     end_session(alloc, run, name, &found)
 }
 
@@ -158,6 +172,7 @@ fn serve_named<F: Files, T: Tables>(
 fn serve_in_session<F: Files, T: Tables>(
     alloc: Global,
     run: &mut Run<F, T>,
+    scripts: &mut Scripts,
     session: Option<&[u8]>,
     path: &[u8],
     e: &Entry,
@@ -165,8 +180,8 @@ fn serve_in_session<F: Files, T: Tables>(
     ensures { Performs F.Files T.Tables (in_session (option_map (λ n. n.now) session.entry) (serve_and_end path.now (lift e.now))) run.old result run.new }
 {
     match session {
-        Some(name) => serve_named(alloc, run, name, path, e),
-        None => serve_and_end(alloc, run, path, e),
+        Some(name) => serve_named(alloc, run, scripts, name, path, e),
+        None => serve_and_end(alloc, run, scripts, path, e),
     }
 }
 
@@ -174,6 +189,7 @@ fn serve_in_session<F: Files, T: Tables>(
 fn serve_for<F: Files, T: Tables>(
     alloc: Global,
     run: &mut Run<F, T>,
+    scripts: &mut Scripts,
     path: &[u8],
     inputs: &InputArrays,
     e: &Entry,
@@ -181,22 +197,23 @@ fn serve_for<F: Files, T: Tables>(
     ensures { Performs F.Files T.Tables (in_session (session_of inputs.now) (serve_and_end path.now (lift e.now))) run.old result run.new }
 {
     let session = session_of(alloc, inputs)?;
-    serve_in_session(alloc, run, session, path, e)
+    serve_in_session(alloc, run, scripts, session, path, e)
 }
 
 // The steps behind the first read, where the file is there.
 fn serve_entry<F: Files, T: Tables>(
     alloc: Global,
     run: &mut Run<F, T>,
+    scripts: &mut Scripts,
     path: &[u8],
     inputs: &InputArrays,
     e: &Entry,
 ) -> Result<Finish, Stop>
     ensures { Performs F.Files T.Tables (serve_found path.now inputs.now (Some (lift e.now))) run.old result run.new }
 {
-    run_boot(alloc, run)?;
+    run_boot(alloc, run, scripts)?;
     put_inputs(alloc, run, inputs)?;
-    serve_for(alloc, run, path, inputs, e)?;
+    serve_for(alloc, run, scripts, path, inputs, e)?;
     Ok(Finish::Answered)
 }
 
@@ -204,6 +221,7 @@ fn serve_entry<F: Files, T: Tables>(
 fn perform_request<F: Files, T: Tables>(
     alloc: Global,
     run: &mut Run<F, T>,
+    scripts: &mut Scripts,
     path: &[u8],
     inputs: InputArrays,
 ) -> Result<Finish, Stop>
@@ -215,7 +233,7 @@ fn perform_request<F: Files, T: Tables>(
     let found = run.read_file(path)?;
     match found {
         None => Ok(Finish::Missing),
-        Some(e) => serve_entry(alloc, run, path, &inputs, &e),
+        Some(e) => serve_entry(alloc, run, scripts, path, &inputs, &e),
     }
 }
 
@@ -233,6 +251,7 @@ pub fn run_request<F: Files, T: Tables>(
     alloc: Global,
     path: &[u8],
     inputs: InputArrays,
+    scripts: &mut Scripts,
     m: &mut Machine,
     files: &mut F,
     tables: &mut T,
@@ -249,6 +268,6 @@ pub fn run_request<F: Files, T: Tables>(
         calls,
         |run|
             ensures { Performs F.Files T.Tables (request_program path.entry.now inputs) run.old result run.new }
-        { perform_request(alloc, run, path, inputs) },
+        { perform_request(alloc, run, scripts, path, inputs) },
     )
 }

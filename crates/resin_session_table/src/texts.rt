@@ -1,6 +1,7 @@
 //! How texts are spelled in a row, read and written.
 ghost use Rattle.std.specs.Prelude.{◌<◌, length};
 
+use resin_table_rows::spelled;
 use resin_value::under::label::PSet;
 use resin_value::under::lstr::{Builder, LText, TextFault};
 use std::alloc::{AllocError, Global};
@@ -13,25 +14,14 @@ enum Spelled {
     Set,
 }
 
-fn hexadecimal(b: u8) -> u8
-    ensures { result < 16 }
-{
-    match b {
-        b'0'..=b'9' => b - b'0',
-        b'a'..=b'f' => b - b'a' + 10,
-        _ => 0,
-    }
-}
-
 fn place_in(s: &[u8]) -> Spelled
     requires { 0 < length s.now }
 {
     match s {
-        [b'\\', b'x', high, low, ..] => {
-            Spelled::Byte(16 * hexadecimal(*high) + hexadecimal(*low), 4)
+        [b'\\', b'x' | b'n' | b'\\', ..] => {
+            let (b, taken) = spelled(s);
+            Spelled::Byte(b, taken)
         }
-        [b'\\', b'n', ..] => Spelled::Byte(b'\n', 2),
-        [b'\\', b'\\', ..] => Spelled::Byte(b'\\', 2),
         [b'<', ..] => Spelled::Set,
         _ => Spelled::Byte(s[0], 1),
     }

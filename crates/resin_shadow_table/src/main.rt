@@ -11,7 +11,8 @@
 //! - `many|COUNT|POLICIES|EACH`: how long the shadow text of so many runs is, how many runs there are, and how many are read again.
 //!
 //! A value is `null`, `true`, `false`, an integer, a text between `'`, the number of an object behind `#`, or `[ KEY: VALUE VALUE ]`; labels stand between
-//! braces, as in `'ab{1}c{}'` and `7{2}`. In bytes `\\s` stands for a space, `\\n` for a newline, and a backslash before another byte for that byte.
+//! braces, as in `'ab{1}c{}'` and `7{2}`. In bytes `\\s` stands for a space, `\\n` for a newline, `\\xhh` for the byte of two digits, and a
+//! backslash before another byte for that byte.
 //!
 //! The texts were worked out by PHP's `serialize` of an object with these public properties, or by hand from the format; those of shadow
 //! texts by another program, written from the format.

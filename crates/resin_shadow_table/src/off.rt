@@ -1,8 +1,9 @@
 //! How many texts are read that are off a shadow text by one byte.
 
-use crate::fields::{bytes_in, length_in};
+use crate::fields::length_in;
 use crate::stop::Stop;
 use resin_shadow::decode;
+use resin_table_rows::bytes_in;
 use std::alloc::{AllocError, Global};
 
 // The bytes with so many from a place on left out, and these in their place.

@@ -1,11 +1,11 @@
 //! Policy texts.
 
-use crate::fields::{bytes_in, push_bytes};
 use crate::stop::Stop;
 use crate::values::{push_value, value_in};
 use resin_frozen::{
     FreezeFault, Frozen, Rest, Stop as ReadStop, are_fields, freeze, is_class, thaw,
 };
+use resin_table_rows::{bytes_in, push_bytes};
 use resin_value::Fields;
 use resin_value::under::bytes::Bytes;
 use std::alloc::{AllocError, Global};

@@ -1,9 +1,10 @@
 //! Shadow texts.
 
-use crate::fields::{bytes_in, length_in, push_bytes};
+use crate::fields::length_in;
 use crate::policies::policy_in;
 use crate::stop::Stop;
 use resin_shadow::{FrozenList, FrozenRun, FrozenRuns, decode, encode};
+use resin_table_rows::{bytes_in, push_bytes};
 use std::alloc::{AllocError, Global};
 
 // The policy texts that a field spells, split by spaces.

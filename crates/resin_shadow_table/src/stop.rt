@@ -1,8 +1,6 @@
 //! Why a row has no answer.
 
 use resin_frozen::Stop as ReadStop;
-use resin_value::ArrFault;
-use resin_value::under::lstr::TextFault;
 use std::alloc::AllocError;
 use std::num::ParseIntError;
 
@@ -27,18 +25,6 @@ impl Stop {
 impl From<AllocError> for Stop {
     fn from(_error: AllocError) -> Stop {
         Stop::Memory
-    }
-}
-
-impl From<TextFault> for Stop {
-    fn from(_fault: TextFault) -> Stop {
-        Stop::Unreadable
-    }
-}
-
-impl From<ArrFault> for Stop {
-    fn from(_fault: ArrFault) -> Stop {
-        Stop::Unreadable
     }
 }
 

@@ -1,127 +1,26 @@
-//! How values and keys are spelled in a row, read and written.
+//! How values are spelled in a row, read and written.
 
-use crate::fields::{bytes_in, digits_in, integer_in, number_in, push_bytes, text_in};
 use crate::stop::Stop;
+use resin_table_rows::{Row, push_bytes};
+use resin_table_values::value_in as read_value;
+use resin_value::Value;
 use resin_value::under::lstr::LText;
-use resin_value::{Arr, Key, Value};
 use std::alloc::{AllocError, Global};
-
-// An array under way, and the key of its next value.
-#[derive(Drop)]
-struct Open {
-    array: Arr,
-    key: Option<Key>,
-}
-
-// The arrays that are under way, one in another, and the last value that stood in none.
-#[derive(Drop)]
-struct Reader {
-    opened: Vec<Open>,
-    read: Value,
-}
+use std::cell::Cell;
 
 /// The value that a field spells.
 pub fn value_in(alloc: Global, field: &str) -> Result<Value, Stop> {
-    let mut reader = Reader {
-        opened: Vec::new(alloc),
-        read: Value::Null,
+    let is_unreadable = Cell::new(false);
+    let row = Row {
+        alloc,
+        fields: &[],
+        is_unreadable: &is_unreadable,
     };
-    for token in field.split(' ') {
-        reader.take(alloc, token)?;
+    let value = read_value(row, field)?;
+    if is_unreadable.get() {
+        return Err(Stop::Unreadable);
     }
-    Ok(reader.read)
-}
-
-impl Reader {
-    fn take(&mut self, alloc: Global, token: &str) -> Result<(), Stop> {
-        match token.strip_suffix(':') {
-            Some(key) => self.set_key(alloc, key),
-            None if token == "[" => self.open(alloc),
-            None if token == "]" => self.close(),
-            None => self.put(scalar_in(alloc, token)?),
-        }
-    }
-
-    fn open(&mut self, alloc: Global) -> Result<(), Stop> {
-        let array = Arr::new(alloc)?;
-        let open = Open { array, key: None };
-        self.opened.push(open).map_err(AllocError::from)?;
-        Ok(())
-    }
-
-    fn close(&mut self) -> Result<(), Stop> {
-        match self.opened.pop() {
-            Some(open) => self.put(Value::Arr(open.array)),
-            None => Err(Stop::Unreadable),
-        }
-    }
-
-    fn set_key(&mut self, alloc: Global, token: &str) -> Result<(), Stop> {
-        let key = key_in(alloc, token)?;
-        match self.opened.last_mut() {
-            Some(open) => {
-                open.key = Some(key);
-                Ok(())
-            }
-            None => Err(Stop::Unreadable),
-        }
-    }
-
-    // Puts a value into the innermost array.
-    fn put(&mut self, value: Value) -> Result<(), Stop> {
-        match self.opened.last_mut() {
-            Some(open) => open.put(value),
-            None => {
-                self.read = value;
-                Ok(())
-            }
-        }
-    }
-}
-
-impl Open {
-    fn put(&mut self, value: Value) -> Result<(), Stop> {
-        match self.key.take() {
-            Some(key) if key.is_lawful() => Ok(self.array.put(&key, value)?),
-            _ => Ok(self.array.append(value)?),
-        }
-    }
-}
-
-fn scalar_in(alloc: Global, token: &str) -> Result<Value, Stop> {
-    match token {
-        "null" => Ok(Value::Null),
-        "true" => Ok(Value::Bool(true)),
-        "false" => Ok(Value::Bool(false)),
-        _ => match token.strip_prefix('\'') {
-            Some(text) => {
-                let inside = text.strip_suffix('\'').unwrap_or(text);
-                Ok(Value::Text(text_in(alloc, inside)?))
-            }
-            None => numbered(alloc, token),
-        },
-    }
-}
-
-// An object, or an integer with its set.
-fn numbered(alloc: Global, token: &str) -> Result<Value, Stop> {
-    if let Some(number) = token.strip_prefix('#') {
-        return Ok(Value::Obj(number_in(number)?));
-    }
-    let (number, digits) = token.split_once('{').unwrap_or((token, ""));
-    let set = digits_in(alloc, digits.strip_suffix('}').unwrap_or(digits))?;
-    Ok(Value::Int(integer_in(number)?, set))
-}
-
-/// The key that a field spells: an integer, or what a text between `'` counts as.
-pub fn key_in(alloc: Global, field: &str) -> Result<Key, Stop> {
-    match field.strip_prefix('\'') {
-        Some(text) => {
-            let bytes = bytes_in(alloc, text.strip_suffix('\'').unwrap_or(text))?;
-            Ok(Key::from_text(alloc, &bytes)?)
-        }
-        None => Ok(Key::Int(integer_in(field)?)),
-    }
+    Ok(value)
 }
 
 /// Puts a value last, an array by its count and its next key. Labels are shown by a `!`.

@@ -11,10 +11,10 @@ ghost use Rattle.resin_site.specs.Serving.{Served, Ends};
 
 use crate::outcome::{Outcome, outcome_for};
 use crate::site::Site;
+use resin_request::path_of;
 use resin_request::under::base::{Calls, Files, Tables};
 use resin_request::under::http::{Method, Request, inputs};
 use resin_request::under::machine::Machine;
-use resin_request::{path_of, run_request};
 use std::alloc::{AllocError, Global};
 
 /// Serves one request; `number` is its number in its mail and its log. The runtime reads the file that the target asks for, runs `boot.php`, sets
@@ -71,8 +71,8 @@ pub fn serve_one<F: Files, T: Tables>(
 {
     let path = path_of(alloc, r.target.as_slice())?;
     let inputs = inputs(alloc, r)?;
-    let mut m = Machine::new(alloc, site.fuel(), number)?;
-    let finish = run_request(alloc, path.as_slice(), inputs, &mut m, files, tables, calls);
+    let mut m = Machine::begin(alloc, site.runtime(), site.fuel(), number)?;
+    let finish = site.run(alloc, path.as_slice(), inputs, &mut m, files, tables, calls);
     outcome_for(alloc, path.as_slice(), is_head(r.method), finish, m)
 }
 

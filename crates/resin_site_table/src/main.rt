@@ -3,7 +3,7 @@
 //! one, and a field with its bytes; tables, each a field `table NAME COLUMN ..`, where `:INTEGER` may stand behind a column's name, and fields `row NAME CELL~CELL..`, a
 //! cell being `i` and an integer, `t` and a text, or else NULL; and requests, each a field with the method and the target, and behind a newline further lines of the head, the
 //! empty one, and the body. A request is served when it is met, so that files behind it aren't there yet. `LOOK` and a path show what is
-//! kept there by then.
+//! kept there by then, and `PARSES` how many texts of scripts the site has read.
 //!
 //! A line is printed for each request: how it ended, its status, its keeper calls with the numbers of those that failed, the bytes of its response and the response, the denials,
 //! and the mail, where there are any; and for a request that is refused the status and the response. A field `show NAME` prints the rows of a table in the same way. A line that begins with `# ` is a heading and is printed as it is.
@@ -239,6 +239,9 @@ fn take(
         push_line(out, tables::shown(alloc, &served.tables, name)?.as_str())?;
     } else if let Some(path) = field.strip_prefix("LOOK ") {
         push_line(out, look(alloc, &served.files, path)?.as_str())?;
+    } else if field == "PARSES" {
+        let count = served.site.parses();
+        push_line(out, format!(in alloc; "{count} texts read")?.as_str())?;
     } else if is_request(field) {
         serve(alloc, served, out, field)?;
     } else {

@@ -1,8 +1,9 @@
 //! The values of a total's items.
 
-use crate::show::push_cell;
 use resin_base::{Bytes, Cell, Stored};
 use resin_sql_more::{MoreAnswer, TotalFault, TotalItem, item_name, item_value};
+use resin_table_rows::Line;
+use resin_table_sql::push_cell;
 use std::alloc::{AllocError, Global};
 
 fn copied(alloc: Global, cell: &Cell) -> Result<Cell, AllocError> {
@@ -27,20 +28,22 @@ fn values_of(alloc: Global, row: &Stored) -> Result<Option<Vec<Cell>>, AllocErro
 
 fn push_value(
     alloc: Global,
-    out: &mut String,
+    out: &mut Line,
     item: &TotalItem,
     chosen: u64,
     row: &Stored,
 ) -> Result<(), AllocError> {
     let Some(values) = values_of(alloc, row)? else {
-        return out.push('?');
+        out.push('?');
+        return Ok(());
     };
     match item_value(alloc, item, chosen % 1_000_000, values.as_slice()) {
         Ok(cell) => push_cell(out, &cell),
         Err(TotalFault::IntegerOverflow) => out.push_str("overflow"),
         Err(TotalFault::TextTooLong) => out.push_str("too long"),
-        Err(TotalFault::Memory) => Err(AllocError),
+        Err(TotalFault::Memory) => return Err(AllocError),
     }
+    Ok(())
 }
 
 /// The first item of a name.
@@ -61,13 +64,13 @@ fn item_called<'a>(
 /// Adds the value of each item that is answered, `?` where one of its cells isn't read.
 pub(crate) fn push_values(
     alloc: Global,
-    out: &mut String,
+    out: &mut Line,
     items: &[TotalItem],
     answer: &MoreAnswer,
 ) -> Result<(), AllocError> {
-    out.push_str(" =")?;
+    out.push_str(" =");
     for (name, row) in answer.names.as_slice().iter().zip(answer.rows.as_slice()) {
-        out.push(' ')?;
+        out.push(' ');
         if let Some(item) = item_called(alloc, items, name.as_slice())? {
             push_value(alloc, out, item, answer.chosen, row)?;
         }

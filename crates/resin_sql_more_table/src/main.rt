@@ -17,150 +17,97 @@ mod show;
 
 use crate::item_values::push_values;
 use crate::shelf::Shelf;
-use crate::show::{push_answer, push_numbers};
-use resin_base::{Bytes, Cell, Stored, StoredCell};
-use resin_label::PSet;
-use resin_lstr::{Builder, LText, TextFault};
-use resin_sql_more::under::sql::{Condition, Literal, SqlFault, Test, literal_text};
-use resin_sql_more::{MoreStmt, exec_join, exec_total, read_more};
+use crate::show::push_answer;
+use resin_lstr::LText;
+use resin_sql_more::under::sql::SqlFault;
+use resin_sql_more::under::sql::parts::where_literals;
+use resin_sql_more::{JoinStmt, MoreStmt, TotalStmt, exec_join, exec_total, read_more};
+use resin_table_rows::Line;
+use resin_table_sql::{plain_text, push_calls, stored_of};
 use std::alloc::{AllocError, Global};
 use std::io;
 
-/// A text without labels.
-fn plain(alloc: Global, text: &str) -> Result<LText, AllocError> {
-    let none = PSet::empty();
-    match Builder::new(alloc).append_bytes(text.as_bytes(), &none) {
-        Ok(out) => out.finish(),
-        Err(TextFault::Memory) => Err(AllocError),
-        Err(_) => Builder::new(alloc).finish(),
-    }
-}
-
-/// The values so far of a condition that was read from a text.
-#[derive(Drop)]
-struct Values<'a> {
+/// Carries out a join that was read from a text, and adds what came of it.
+fn push_join(
     alloc: Global,
-    text: &'a LText,
-    stored: Stored,
-    count: usize,
-}
-
-impl<'a> Values<'a> {
-    fn shadow(&self) -> Result<Cell, AllocError> {
-        let count = self.count;
-        let text = format!(in self.alloc; "s{count}")?;
-        Ok(Cell::Text(Bytes::from_slice(self.alloc, text.as_bytes())?))
-    }
-
-    fn push(&mut self, literal: Literal) -> Result<(), AllocError> {
-        self.count = self.count.saturating_add(1);
-        let (value, shadow) = match literal {
-            Literal::Null => (Cell::Null, Cell::Text(Bytes::new(self.alloc))),
-            Literal::Integer(n, _) => (Cell::Int(n), self.shadow()?),
-            Literal::Text(_) => {
-                let text = literal_text(self.alloc, self.text, literal)?;
-                let bytes = Bytes::from_slice(self.alloc, text.bytes())?;
-                (Cell::Text(bytes), self.shadow()?)
-            }
-        };
-        self.stored.push(StoredCell { value, shadow })
-    }
-
-    #[cycle(conditions)]
-    fn push_condition(&mut self, condition: &Condition) -> Result<(), AllocError> {
-        match condition {
-            Condition::Test(Test::Compare(_, _, literal)) => self.push(*literal),
-            Condition::Test(Test::Null(_, _)) => Ok(()),
-            Condition::All(parts) | Condition::Any(parts) => self.push_parts(parts.as_slice()),
-        }
-    }
-
-    #[cycle(conditions)]
-    fn push_parts(&mut self, parts: &[Condition]) -> Result<(), AllocError> {
-        for part in parts {
-            self.push_condition(part)?;
-        }
-        Ok(())
-    }
-}
-
-/// The values of a condition's literals.
-fn stored(
-    alloc: Global,
+    out: &mut Line,
     text: &LText,
-    condition: &Option<Condition>,
-) -> Result<Stored, AllocError> {
-    let mut values = Values {
+    join: &JoinStmt,
+    shelf: &mut Shelf,
+) -> Result<(), AllocError> {
+    let literals = where_literals(alloc, &join.condition)?;
+    let cells = stored_of(alloc, text, literals.as_slice())?;
+    let left = shelf.left;
+    let answer = exec_join(
         alloc,
-        text,
-        stored: Stored::new(alloc),
-        count: 0,
-    };
-    if let Some(condition) = condition {
-        values.push_condition(condition)?;
-    }
-    let Values { stored, .. } = values;
-    Ok(stored)
+        join,
+        &cells,
+        left,
+        &mut shelf.tables,
+        &mut shelf.calls,
+    );
+    push_answer(out, &answer);
+    push_calls(out, &shelf.calls);
+    Ok(())
 }
 
-/// Carries out a statement, and adds what came of it.
+/// Carries out a total that was read from a text, and adds what came of it.
+fn push_total(
+    alloc: Global,
+    out: &mut Line,
+    text: &LText,
+    total: &TotalStmt,
+    shelf: &mut Shelf,
+) -> Result<(), AllocError> {
+    let literals = where_literals(alloc, &total.condition)?;
+    let cells = stored_of(alloc, text, literals.as_slice())?;
+    let left = shelf.left;
+    let answer = exec_total(
+        alloc,
+        total,
+        &cells,
+        left,
+        &mut shelf.tables,
+        &mut shelf.calls,
+    );
+    push_answer(out, &answer);
+    if let Ok(answer) = &answer {
+        push_values(alloc, out, total.items.as_slice(), answer)?;
+    }
+    push_calls(out, &shelf.calls);
+    Ok(())
+}
+
+/// Carries out the statement of a field, and adds what came of it.
 fn push_statement(
     alloc: Global,
-    out: &mut String,
+    out: &mut Line,
     field: &str,
     shelf: &mut Shelf,
 ) -> Result<(), AllocError> {
-    let text = plain(alloc, field)?;
+    let text = plain_text(alloc, field)?;
     match read_more(alloc, &text) {
-        Ok(MoreStmt::Join(join)) => {
-            let cells = stored(alloc, &text, &join.condition)?;
-            let left = shelf.left;
-            let answer = exec_join(
-                alloc,
-                &join,
-                &cells,
-                left,
-                &mut shelf.tables,
-                &mut shelf.calls,
-            );
-            push_answer(out, &answer)?;
-            push_numbers(out, &shelf.calls)
-        }
-        Ok(MoreStmt::Total(total)) => {
-            let cells = stored(alloc, &text, &total.condition)?;
-            let left = shelf.left;
-            let answer = exec_total(
-                alloc,
-                &total,
-                &cells,
-                left,
-                &mut shelf.tables,
-                &mut shelf.calls,
-            );
-            push_answer(out, &answer)?;
-            if let Ok(answer) = &answer {
-                push_values(alloc, out, total.items.as_slice(), answer)?;
-            }
-            push_numbers(out, &shelf.calls)
-        }
+        Ok(MoreStmt::Join(join)) => push_join(alloc, out, &text, &join, shelf)?,
+        Ok(MoreStmt::Total(total)) => push_total(alloc, out, &text, &total, shelf)?,
         Ok(MoreStmt::Plain(_)) => out.push_str("plain"),
-        Err(SqlFault::Bad { offset }) => write!(out, "syntax at {offset}"),
-        Err(SqlFault::Memory) => Err(AllocError),
+        Err(SqlFault::Bad { offset }) => out.tell("syntax at ", offset, ""),
+        Err(SqlFault::Memory) => return Err(AllocError),
     }
+    Ok(())
 }
 
 fn run(alloc: Global, line: &str) -> Result<String, AllocError> {
-    let mut out = String::new(alloc);
+    let mut out = Line::new(alloc);
     let mut shelf = Shelf::set(alloc, line)?;
+    let mut mark = "";
     for field in line.split('|') {
         if !Shelf::is_setting(field) {
-            if !out.is_empty() {
-                out.push_str(" | ")?;
-            }
+            out.push_str(mark);
+            mark = " | ";
             push_statement(alloc, &mut out, field, &mut shelf)?;
         }
     }
-    Ok(out)
+    out.end()
 }
 
 fn main(rt: HostRuntime) -> io::Result<()> {

@@ -1,370 +1,134 @@
-//! Reads a statement from each line and prints its tree, or the offset of its fault. In the input `\n`, `\r`, `\t`, `\\`, `\'` and
+//! Reads a statement from each line and prints its tree, or the offset of its fault. In the input `\n`, `\r`, `\t`, `\\` and
 //! `\xhh` stand for a byte. `\1` to `\9` let the bytes behind them carry the policy of that number alone, `\0` none. A line
 //! `@COUNT@FRONT@PART@BACK` stands for FRONT, COUNT times PART, and BACK. A literal is printed with the sets of its bytes, each
 //! before the bytes that carry it. The output was worked out by hand from the grammar.
 #![tactic(auto)]
 
-ghost use Rattle.std.specs.Prelude.{◌<◌, length};
-
 use resin_base::{Kind, Names};
 use resin_items::Items;
-use resin_label::PSet;
-use resin_lstr::{Builder, LText, TextFault};
-use resin_sql::{
-    Change, Comparison, Condition, Create, Delete, Insert, Literal, Order, Select, SqlFault, Stmt,
-    Test, Update, literal_text, read_sql,
-};
+use resin_sql::{Change, Create, Delete, Insert, Literal, Order, Select, Stmt, Update, read_sql};
+use resin_table_rows::Line;
+use resin_table_sql::{Printer, push_fault, push_limit, push_text_fault};
+use resin_table_values::marked_in;
 use std::alloc::{AllocError, Global};
 use std::io;
 
-/// Prints trees whose literals stand in a text.
-#[derive(Clone, Copy)]
-struct Printer<'a> {
-    alloc: Global,
-    text: &'a LText,
-}
-
-fn push_byte(out: &mut String, b: u8) -> Result<(), AllocError> {
-    match b {
-        b'\n' => write!(out, "\\n"),
-        b'\r' => write!(out, "\\r"),
-        b'\t' => write!(out, "\\t"),
-        32..=126 => out.push(b as char),
-        _ => write!(out, "\\x{b:02x}"),
-    }
-}
-
-fn push_bytes(out: &mut String, bytes: &[u8]) -> Result<(), AllocError> {
-    for b in bytes {
-        push_byte(out, *b)?;
-    }
-    Ok(())
-}
-
-fn push_set(out: &mut String, set: &PSet) -> Result<(), AllocError> {
-    out.push('{')?;
-    for n in set.as_slice() {
-        write!(out, "{n};")?;
-    }
-    out.push('}')
-}
-
-/// The bytes of a text, with the set before each of its runs.
-fn push_text(out: &mut String, text: &LText) -> Result<(), AllocError> {
-    let bytes = text.bytes();
-    let mut from = 0usize;
-    for run in text.runs() {
-        push_set(out, &run.set)?;
-        let to = run.end as usize;
-        if from <= to && to <= bytes.len() {
-            push_bytes(out, &bytes[from..to])?;
-        }
-        from = to;
-    }
-    Ok(())
-}
-
-fn push_names(out: &mut String, names: &Option<Names>) -> Result<(), AllocError> {
-    match names {
-        None => out.push('*'),
-        Some(names) => {
-            for name in names.as_slice() {
-                out.push('.')?;
-                push_bytes(out, name.as_slice())?;
-            }
-            Ok(())
-        }
-    }
-}
-
-fn sign_of(operator: Comparison) -> &'static str {
-    match operator {
-        Comparison::Equal => "=",
-        Comparison::NotEqual => "<>",
-        Comparison::Less => "<",
-        Comparison::LessOrEqual => "<=",
-        Comparison::Greater => ">",
-        Comparison::GreaterOrEqual => ">=",
-    }
-}
-
-impl<'a> Printer<'a> {
-    fn push_literal(&self, out: &mut String, literal: Literal) -> Result<(), AllocError> {
-        match literal {
-            Literal::Null => write!(out, "null"),
-            Literal::Integer(value, _) => {
-                write!(out, "{value}:")?;
-                push_text(out, &literal_text(self.alloc, self.text, literal)?)
-            }
-            Literal::Text(_) => {
-                write!(out, "text:")?;
-                push_text(out, &literal_text(self.alloc, self.text, literal)?)
-            }
-        }
-    }
-
-    fn push_test(&self, out: &mut String, test: &Test) -> Result<(), AllocError> {
-        match test {
-            Test::Compare(column, operator, literal) => {
-                push_bytes(out, column.as_slice())?;
-                out.push_str(sign_of(*operator))?;
-                self.push_literal(out, *literal)
-            }
-            Test::Null(column, negated) => {
-                push_bytes(out, column.as_slice())?;
-                out.push_str(if *negated { " not null" } else { " null" })
-            }
-        }
-    }
-
-    #[cycle(conditions)]
-    fn push_condition(&self, out: &mut String, condition: &Condition) -> Result<(), AllocError> {
-        match condition {
-            Condition::Test(test) => self.push_test(out, test),
-            Condition::All(parts) => self.push_parts(out, "all[", parts.as_slice()),
-            Condition::Any(parts) => self.push_parts(out, "any[", parts.as_slice()),
-        }
-    }
-
-    #[cycle(conditions)]
-    fn push_parts(
-        &self,
-        out: &mut String,
-        name: &str,
-        parts: &[Condition],
-    ) -> Result<(), AllocError> {
-        out.push_str(name)?;
-        for part in parts {
-            self.push_condition(out, part)?;
-            out.push(';')?;
-        }
-        out.push(']')
-    }
-
-    fn push_where(
-        &self,
-        out: &mut String,
-        condition: &Option<Condition>,
-    ) -> Result<(), AllocError> {
-        match condition {
-            None => Ok(()),
-            Some(condition) => {
-                out.push_str(" where ")?;
-                self.push_condition(out, condition)
-            }
-        }
-    }
-
-    fn push_create(&self, out: &mut String, create: &Create) -> Result<(), AllocError> {
-        out.push_str("create ")?;
-        push_bytes(out, create.table.as_slice())?;
-        for column in create.columns.as_slice() {
-            out.push(' ')?;
-            push_bytes(out, column.name.as_slice())?;
-            out.push_str(match column.kind {
-                Kind::Integer => ":integer",
-                Kind::Text => ":text",
-            })?;
-        }
-        Ok(())
-    }
-
-    fn push_row(&self, out: &mut String, row: &Items<Literal>) -> Result<(), AllocError> {
-        out.push('(')?;
-        for literal in row.as_slice() {
-            self.push_literal(out, *literal)?;
-            out.push(',')?;
-        }
-        out.push(')')
-    }
-
-    fn push_insert(&self, out: &mut String, insert: &Insert) -> Result<(), AllocError> {
-        out.push_str("insert ")?;
-        push_bytes(out, insert.table.as_slice())?;
-        out.push(' ')?;
-        push_names(out, &insert.columns)?;
-        out.push(' ')?;
-        for row in insert.rows.as_slice() {
-            self.push_row(out, row)?;
-        }
-        Ok(())
-    }
-
-    fn push_order(&self, out: &mut String, order: &Option<Order>) -> Result<(), AllocError> {
-        match order {
-            None => Ok(()),
-            Some(order) => {
-                out.push_str(if order.descending {
-                    " falling "
-                } else {
-                    " rising "
-                })?;
-                push_bytes(out, order.column.as_slice())
-            }
-        }
-    }
-
-    fn push_select(&self, out: &mut String, select: &Select) -> Result<(), AllocError> {
-        out.push_str("select ")?;
-        push_names(out, &select.columns)?;
-        out.push_str(" from ")?;
-        push_bytes(out, select.table.as_slice())?;
-        self.push_where(out, &select.condition)?;
-        self.push_order(out, &select.order)?;
-        match select.limit {
-            None => Ok(()),
-            Some(n) => write!(out, " limit {n}"),
-        }
-    }
-
-    fn push_change(&self, out: &mut String, change: &Change) -> Result<(), AllocError> {
-        out.push(' ')?;
-        push_bytes(out, change.column.as_slice())?;
-        out.push('=')?;
-        self.push_literal(out, change.literal)
-    }
-
-    fn push_update(&self, out: &mut String, update: &Update) -> Result<(), AllocError> {
-        out.push_str("update ")?;
-        push_bytes(out, update.table.as_slice())?;
-        for change in update.changes.as_slice() {
-            self.push_change(out, change)?;
-        }
-        self.push_where(out, &update.condition)
-    }
-
-    fn push_delete(&self, out: &mut String, delete: &Delete) -> Result<(), AllocError> {
-        out.push_str("delete ")?;
-        push_bytes(out, delete.table.as_slice())?;
-        self.push_where(out, &delete.condition)
-    }
-
-    fn push_statement(&self, out: &mut String, statement: &Stmt) -> Result<(), AllocError> {
-        match statement {
-            Stmt::Create(create) => self.push_create(out, create),
-            Stmt::Insert(insert) => self.push_insert(out, insert),
-            Stmt::Select(select) => self.push_select(out, select),
-            Stmt::Update(update) => self.push_update(out, update),
-            Stmt::Delete(delete) => self.push_delete(out, delete),
-        }
-    }
-}
-
-fn answer(alloc: Global, text: &LText) -> Result<String, AllocError> {
-    let mut out = String::new(alloc);
-    match read_sql(alloc, text) {
-        Ok(statement) => Printer { alloc, text }.push_statement(&mut out, &statement)?,
-        Err(SqlFault::Bad { offset }) => write!(out, "bad {offset}")?,
-        Err(SqlFault::Memory) => out.push_str("no memory")?,
-    }
-    Ok(out)
-}
-
-fn hexadecimal(b: u8) -> u8
-    ensures { result < 16 }
-{
-    match b {
-        b'0'..=b'9' => b - b'0',
-        b'a'..=b'f' => b - b'a' + 10,
-        _ => 0,
-    }
-}
-
-/// What a place of a line stands for: a byte, or the policy of the bytes behind it; and how many bytes it takes.
-enum Spelled {
-    Byte(u8, usize),
-    Policy(u32),
-}
-
-fn escape(s: &[u8]) -> Spelled
-    requires { 0 < length s.now }
-{
-    match s {
-        [b'\\', b'x', high, low, ..] => {
-            Spelled::Byte(16 * hexadecimal(*high) + hexadecimal(*low), 4)
-        }
-        [b'\\', b'n', ..] => Spelled::Byte(b'\n', 2),
-        [b'\\', b'r', ..] => Spelled::Byte(b'\r', 2),
-        [b'\\', b't', ..] => Spelled::Byte(b'\t', 2),
-        [b'\\', b'\\', ..] => Spelled::Byte(b'\\', 2),
-        [b'\\', digit, ..] if digit.is_ascii_digit() => Spelled::Policy((*digit - b'0') as u32),
-        _ => Spelled::Byte(s[0], 1),
-    }
-}
-
-fn set_with(alloc: Global, policy: u32) -> Result<PSet, AllocError> {
-    if policy == 0 {
-        Ok(PSet::empty())
-    } else {
-        PSet::empty().with(alloc, policy)
-    }
-}
-
-/// The text that a part of a line stands for, put last.
-fn put_part(alloc: Global, out: Builder, line: &[u8]) -> Result<Builder, TextFault> {
-    let mut text = out;
-    let mut set = PSet::empty();
-    let mut skip = 0usize;
-    for i in 0..line.len() {
-        if skip > 0 {
-            skip -= 1;
-        } else {
-            match escape(&line[i..]) {
-                Spelled::Byte(b, taken) => {
-                    text = text.append_bytes(&[b], &set)?;
-                    skip = taken.saturating_sub(1);
-                }
-                Spelled::Policy(n) => {
-                    set = set_with(alloc, n)?;
-                    skip = 1;
-                }
-            }
-        }
-    }
-    Ok(text)
-}
-
-fn decimal_of(digits: &[u8]) -> u32 {
-    digits.iter().fold(
-        0,
-        |n: u32, b| n
-            .wrapping_mul(10)
-            .wrapping_add((*b).wrapping_sub(b'0') as u32),
-    )
-}
-
-/// The text of a line `@COUNT@FRONT@PART@BACK`, behind its first byte.
-fn repeated(alloc: Global, line: &[u8]) -> Result<Builder, TextFault> {
-    let mut pieces = line.split(|b| *b == b'@');
-    let count = decimal_of(pieces.next().unwrap_or(&[]));
-    let mut out = put_part(alloc, Builder::new(alloc), pieces.next().unwrap_or(&[]))?;
-    let part = pieces.next().unwrap_or(&[]);
-    for _turn in 0..count {
-        out = put_part(alloc, out, part)?;
-    }
-    put_part(alloc, out, pieces.next().unwrap_or(&[]))
-}
-
-fn text_of(alloc: Global, line: &[u8]) -> Result<LText, TextFault> {
-    let out = match line {
-        [b'@', rest @ ..] => repeated(alloc, rest)?,
-        _ => put_part(alloc, Builder::new(alloc), line)?,
+fn push_names(out: &mut Line, names: &Option<Names>) {
+    let Some(names) = names else {
+        return out.push('*');
     };
-    Ok(out.finish()?)
+    for name in names.as_slice() {
+        out.push('.');
+        out.push_text_bytes(name.as_slice());
+    }
 }
 
-fn shown(alloc: Global, line: &[u8]) -> Result<String, AllocError> {
-    match text_of(alloc, line) {
-        Ok(text) => answer(alloc, &text),
-        Err(TextFault::TooLong) => String::from_str(alloc, "too long"),
-        Err(TextFault::Memory) => Err(AllocError),
+fn push_create(out: &mut Line, create: &Create) {
+    out.push_str("create ");
+    out.push_text_bytes(create.table.as_slice());
+    for column in create.columns.as_slice() {
+        out.push(' ');
+        out.push_text_bytes(column.name.as_slice());
+        out.push_str(match column.kind {
+            Kind::Integer => ":integer",
+            Kind::Text => ":text",
+        });
     }
+}
+
+fn push_row(out: &mut Line, printer: Printer<'_>, row: &Items<Literal>) {
+    out.push('(');
+    for literal in row.as_slice() {
+        printer.push_literal(out, *literal);
+        out.push(',');
+    }
+    out.push(')');
+}
+
+fn push_insert(out: &mut Line, printer: Printer<'_>, insert: &Insert) {
+    out.push_str("insert ");
+    out.push_text_bytes(insert.table.as_slice());
+    out.push(' ');
+    push_names(out, &insert.columns);
+    out.push(' ');
+    for row in insert.rows.as_slice() {
+        push_row(out, printer, row);
+    }
+}
+
+fn push_order(out: &mut Line, order: &Option<Order>) {
+    if let Some(order) = order {
+        out.push_str(if order.descending {
+            " falling "
+        } else {
+            " rising "
+        });
+        out.push_text_bytes(order.column.as_slice());
+    }
+}
+
+fn push_select(out: &mut Line, printer: Printer<'_>, select: &Select) {
+    out.push_str("select ");
+    push_names(out, &select.columns);
+    out.push_str(" from ");
+    out.push_text_bytes(select.table.as_slice());
+    printer.push_where(out, &select.condition);
+    push_order(out, &select.order);
+    push_limit(out, select.limit);
+}
+
+fn push_change(out: &mut Line, printer: Printer<'_>, change: &Change) {
+    out.push(' ');
+    out.push_text_bytes(change.column.as_slice());
+    out.push('=');
+    printer.push_literal(out, change.literal);
+}
+
+fn push_update(out: &mut Line, printer: Printer<'_>, update: &Update) {
+    out.push_str("update ");
+    out.push_text_bytes(update.table.as_slice());
+    for change in update.changes.as_slice() {
+        push_change(out, printer, change);
+    }
+    printer.push_where(out, &update.condition);
+}
+
+fn push_delete(out: &mut Line, printer: Printer<'_>, delete: &Delete) {
+    out.push_str("delete ");
+    out.push_text_bytes(delete.table.as_slice());
+    printer.push_where(out, &delete.condition);
+}
+
+fn push_statement(out: &mut Line, printer: Printer<'_>, statement: &Stmt) {
+    match statement {
+        Stmt::Create(create) => push_create(out, create),
+        Stmt::Insert(insert) => push_insert(out, printer, insert),
+        Stmt::Select(select) => push_select(out, printer, select),
+        Stmt::Update(update) => push_update(out, printer, update),
+        Stmt::Delete(delete) => push_delete(out, printer, delete),
+    }
+}
+
+fn push_answer(out: &mut Line, printer: Printer<'_>) {
+    match read_sql(printer.alloc, printer.text) {
+        Ok(statement) => push_statement(out, printer, &statement),
+        Err(fault) => push_fault(out, fault),
+    }
+}
+
+fn shown(alloc: Global, line: &str) -> Result<String, AllocError> {
+    let mut out = Line::new(alloc);
+    match marked_in(alloc, line) {
+        Ok(text) => push_answer(&mut out, Printer { alloc, text: &text }),
+        Err(fault) => push_text_fault(&mut out, fault),
+    }
+    out.end()
 }
 
 fn main(rt: HostRuntime) -> io::Result<()> {
     for line in rt.lines(rt.alloc()) {
         let line = line?;
-        rt.println(shown(rt.alloc(), line.as_bytes())?)?;
+        rt.println(shown(rt.alloc(), line.as_str())?)?;
     }
     Ok(())
 }

@@ -3,7 +3,7 @@
 /// `resin_step_parts`
 pub mod step_parts {
     pub use resin_step_parts::{
-        channels, declarations, names, operators, reads, statements, values,
+        appends, channels, declarations, names, operators, reads, statements, values,
     };
 }
 

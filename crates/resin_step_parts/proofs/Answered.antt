@@ -78,7 +78,7 @@ settled_value {A = A} (Err CallMemory) m v m' e = absurd (no_value {A = A} Memor
 
 -- ---- comparisons that charge ticks
 
-after_charge : (n : ℕ) (m m1 : State) → charge n m ≡ (Ok tt, m1) → m1 ≡ record m { ticks = m.ticks - n }
+pub after_charge : (n : ℕ) (m m1 : State) → charge n m ≡ (Ok tt, m1) → m1 ≡ record m { ticks = m.ticks - n }
 after_charge n m m1 e = by (nat_le n m.ticks) e
   where
     by : (b : Bool) → ◌≡◌ {A = Result (Unit {0}) Stop × State} (cond b (Ok tt, record m { ticks = m.ticks - n }) (Err (Fault FuelSpent m.line), m)) (Ok tt, m1) → m1 ≡ record m { ticks = m.ticks - n }

@@ -4,6 +4,7 @@
 //! functions of channels take.
 #![tactic(auto)]
 
+pub mod appends;
 pub mod channels;
 pub mod declarations;
 pub mod names;

@@ -16,6 +16,7 @@ ghost use Rattle.resin_meaning_forms.specs.Parts.{text_cost};
 ghost use Rattle.resin_meaning_forms.specs.Invoke.{constant_of, literal_of};
 ghost use Rattle.resin_meaning_forms.specs.Operands.{is_nothing};
 
+use resin_meaning_forms::under::items::SharedBytes;
 use resin_meaning_forms::under::label::PSet;
 use resin_meaning_forms::under::lstr::{LText, TextFault};
 use resin_meaning_forms::under::machine::{Machine, Stop};
@@ -31,6 +32,16 @@ pub fn plain(alloc: Global, bytes: &[u8]) -> Result<LText, AllocError>
     ensures { IfOk result (λ t. t ≡ carrying no_labels bytes.now) }
 {
     match LText::plain(alloc, bytes) {
+        Ok(text) => Ok(text),
+        Err(_) => Err(AllocError),
+    }
+}
+
+// A text without labels that shares these bytes. They must be no more than a text may have, or it finds no memory.
+fn shared_text(alloc: Global, bytes: &SharedBytes) -> Result<LText, AllocError>
+    ensures { IfOk result (λ t. t ≡ carrying no_labels bytes.now) }
+{
+    match LText::shared(alloc, bytes.handle()?) {
         Ok(text) => Ok(text),
         Err(_) => Err(AllocError),
     }
@@ -60,13 +71,13 @@ pub fn constant_value(alloc: Global, name: ConstantName) -> Result<Value, AllocE
     }
 }
 
-/// The value of a literal; it carries nothing.
+/// The value of a literal; it carries nothing. A text shares the bytes of the literal.
 pub fn literal_value(alloc: Global, literal: &Literal) -> Result<Value, AllocError>
     ensures { IfOk result (λ v. v ≡ value_of (literal_of literal.now)) }
 {
     match literal {
         Literal::Int(n) => Ok(number(*n)),
-        Literal::Text(bytes) => Ok(Value::Text(plain(alloc, bytes.as_slice())?)),
+        Literal::Text(bytes) => Ok(Value::Text(shared_text(alloc, bytes)?)),
         Literal::Constant(name) => constant_value(alloc, *name),
     }
 }

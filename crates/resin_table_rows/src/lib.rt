@@ -11,4 +11,4 @@ mod spelling;
 
 pub use line::Line;
 pub use row::{Row, cut, split_row};
-pub use spelling::bytes_in;
+pub use spelling::{Repeat, bytes_in, push_bytes, repeat_in, spelled};

@@ -1,5 +1,6 @@
 //! The line that is printed for a row.
 
+use crate::spelling::push_bytes;
 use std::alloc::{AllocError, Global};
 use std::fmt::Display;
 
@@ -94,12 +95,6 @@ impl Line {
         self.push_natural(count as u64);
     }
 
-    /// Puts a byte last as `\x` and two digits.
-    pub fn push_hexadecimal(&mut self, b: u8) {
-        let done = write!(self.text, "\\x{b:02x}");
-        self.note(done);
-    }
-
     /// Puts `true` or `false` last, behind a space.
     pub fn push_truth(&mut self, truth: bool) {
         self.push_str(if truth { " true" } else { " false" });
@@ -111,23 +106,31 @@ impl Line {
         self.push_str(word);
     }
 
-    fn push_byte(&mut self, b: u8) {
-        match b {
-            b' ' => self.push_str("\\s"),
-            b'\n' => self.push_str("\\n"),
-            b'\r' => self.push_str("\\r"),
-            b'\t' => self.push_str("\\t"),
-            b'\\' => self.push_str("\\\\"),
-            33..=126 => self.push(char::from(b)),
-            _ => self.push_hexadecimal(b),
+    /// Puts bytes last as a field spells them.
+    pub fn push_bytes(&mut self, bytes: &[u8]) {
+        let done = push_bytes(&mut self.text, bytes);
+        self.note(done);
+    }
+
+    // Puts bytes last as a field spells them, but for those that stand for themselves.
+    fn push_bytes_but(&mut self, bytes: &[u8], plain: &[u8]) {
+        for b in bytes {
+            if plain.contains(b) {
+                self.push(char::from(*b));
+            } else {
+                self.push_bytes(&[*b]);
+            }
         }
     }
 
-    /// Puts bytes last as a row spells them.
-    pub fn push_bytes(&mut self, bytes: &[u8]) {
-        for b in bytes {
-            self.push_byte(*b);
-        }
+    /// Puts bytes last as a field spells them, but for spaces, which stand for themselves.
+    pub fn push_spaced_bytes(&mut self, bytes: &[u8]) {
+        self.push_bytes_but(bytes, b" ");
+    }
+
+    /// Puts bytes last as a field spells them, but for spaces and backslashes, which stand for themselves.
+    pub fn push_text_bytes(&mut self, bytes: &[u8]) {
+        self.push_bytes_but(bytes, b" \\");
     }
 
     /// The whole line.

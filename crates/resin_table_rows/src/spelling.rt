@@ -1,6 +1,7 @@
 //! How bytes are spelled in a row.
 ghost use Rattle.std.specs.Prelude.{◌<◌, length};
 
+use crate::row::cut;
 use std::alloc::{AllocError, Global};
 
 fn hexadecimal(b: u8) -> u8
@@ -24,8 +25,8 @@ fn escaped(b: u8) -> u8 {
     }
 }
 
-// The byte that stands at the front, and how many bytes spell it.
-fn spelled(s: &[u8]) -> (u8, usize)
+/// The byte that stands at the front as a field spells it, and how many bytes spell it.
+pub fn spelled(s: &[u8]) -> (u8, usize)
     requires { 0 < length s.now }
     ensures { 0 < result.1 }
 {
@@ -52,4 +53,46 @@ pub fn bytes_in(alloc: Global, field: &str) -> Result<Vec<u8>, AllocError> {
         }
     }
     Ok(out)
+}
+
+fn push_byte(out: &mut String, b: u8) -> Result<(), AllocError> {
+    match b {
+        b' ' => out.push_str("\\s"),
+        b'\n' => out.push_str("\\n"),
+        b'\r' => out.push_str("\\r"),
+        b'\t' => out.push_str("\\t"),
+        b'\\' => out.push_str("\\\\"),
+        33..=126 => out.push(char::from(b)),
+        _ => write!(out, "\\x{b:02x}"),
+    }
+}
+
+/// Puts bytes last as a field spells them.
+pub fn push_bytes(out: &mut String, bytes: &[u8]) -> Result<(), AllocError> {
+    for b in bytes {
+        push_byte(out, *b)?;
+    }
+    Ok(())
+}
+
+/// A text of `front`, so many times `part`, and `back`, as of rows that are too long to stand there whole.
+#[derive(Clone, Copy)]
+pub struct Repeat<'a> {
+    pub count: u32,
+    pub front: &'a str,
+    pub part: &'a str,
+    pub back: &'a str,
+}
+
+/// What `COUNT@FRONT@PART@BACK` spells. A piece that isn't there is empty, and a count that is no number is 0.
+pub fn repeat_in(field: &str) -> Repeat<'_> {
+    let (count, rest) = cut(field, '@');
+    let (front, rest) = cut(rest, '@');
+    let (part, back) = cut(rest, '@');
+    Repeat {
+        count: count.parse::<u32>().unwrap_or(0),
+        front,
+        part,
+        back,
+    }
 }

@@ -20,6 +20,13 @@ pub fn set_in(alloc: Global, field: &str) -> Result<PSet, AllocError> {
     digits_in(alloc, inside.strip_suffix('}').unwrap_or(inside))
 }
 
+/// What stands before a set between braces, and the set; the empty one where there is none.
+pub fn cut_set(alloc: Global, field: &str) -> Result<(&str, PSet), AllocError> {
+    let (front, digits) = cut(field, '{');
+    let set = digits_in(alloc, digits.strip_suffix('}').unwrap_or(digits))?;
+    Ok((front, set))
+}
+
 /// Bytes and the set that they carry.
 struct Piece {
     bytes: Vec<u8>,

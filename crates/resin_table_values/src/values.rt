@@ -1,7 +1,7 @@
 //! Values and keys.
 
-use crate::texts::{digits_in, text_in};
-use resin_table_rows::{Row, bytes_in, cut};
+use crate::texts::{cut_set, text_in};
+use resin_table_rows::{Row, bytes_in};
 use resin_value::{Arr, ArrFault, Key, Value};
 use std::alloc::{AllocError, Global};
 
@@ -152,8 +152,7 @@ fn quoted_in(alloc: Global, text: &str) -> Result<Value, AllocError> {
 }
 
 fn labelled_in(row: Row<'_>, token: &str) -> Result<Value, AllocError> {
-    let (number, digits) = cut(token, '{');
-    let set = digits_in(row.alloc, digits.strip_suffix('}').unwrap_or(digits))?;
+    let (number, set) = cut_set(row.alloc, token)?;
     Ok(Value::Int(row.integer_in(number), set))
 }
 

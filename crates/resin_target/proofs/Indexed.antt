@@ -1,6 +1,6 @@
 -- What stands under indices of null, and heights of what changes give.
 use Rattle.std.specs.Prelude.{MatchResult, IfOk, ◌==◌, length}
-use Rattle.std.proofs.Common.{◌≡◌, ℕ, ◌+◌, max, List, [], ◌∷◌, Bool, true, false, cond, nat_lt, Option, Some, None, Result, Ok, Err, unwrap_or, is_some, refl, sym, ap, subst, ◌∙◌}
+use Rattle.std.proofs.Common.{◌≡◌, ℕ, ◌+◌, max, List, [], ◌∷◌, Bool, true, false, cond, nat_lt, Option, Some, None, Result, Ok, Err, unwrap_or, is_some, refl, sym, ap, subst, ◌∙◌, arith}
 use Rattle.resin_ops.specs.Under.scalar.declared.faults.ScriptFault.TheVariants.{ArrayTooDeep}
 use Rattle.resin_ops.specs.Under.scalar.declared.faults.CallStop.{CallStop}
 use Rattle.resin_ops.specs.Under.scalar.declared.faults.CallStop.TheVariants.{Throw, Fault as CallFault, Memory as CallMemory}
@@ -14,7 +14,7 @@ use Rattle.resin_ops.specs.Under.value.Trees.{Tree, null}
 use Rattle.resin_ops.specs.Under.value.Values.{value_of, value_of-tree_of}
 use Rattle.resin_target.specs.declared.path.Index.{Index}
 use Rattle.resin_target.specs.Reads.{GivesOrNoMemory, on, value_at}
-use Rattle.resin_target.specs.Stores.{put_in, found, key_in, with_change, changed_at}
+use Rattle.resin_target.specs.Stores.{put_in, found, key_in, with_change, changed_at, stored}
 use Rattle.resin_target.specs.Heights.{height_of, raised_to}
 
 -- nothing stands under null
@@ -78,6 +78,17 @@ pub height_with_change : (i : Index) (k : Key) (a : Array) (change : Value → R
     → GivesOrNoMemory (on r (raised_to a.height)) (height_of (with_change i change a))
 height_with_change i k a change below r ek e g =
     gives_as _ _ _ (ap (λ x. height_of (on x (λ k. on (change (value_at k a)) (λ v. put_in k v a)))) ek) (height_changed k a change below r e g)
+
+-- the same behind the last index, whatever stands there
+pub height_with_last : (i : Index) (k : Key) (a : Array) (is : List Index) (v : Value) → key_in i a ≡ Ok k → is ≡ []
+    → GivesOrNoMemory (raised_to a.height (height_in (tree_of v))) (height_of (with_change i (λ below. stored is v below) a))
+height_with_last i k a is v ek e =
+    height_with_change i k a (λ below. stored is v below) (value_at k a) (Ok (height_in (tree_of v))) ek refl (ap (λ js. height_of (stored js v (value_at k a))) e)
+
+-- a list without items
+pub none_left : (is : List Index) → length is ≡ 0 → is ≡ []
+none_left [] e = refl
+none_left (i ∷ is) e = absurd (omega arith)
 
 -- ---- what is left where a key goes, behind more indices
 abbrev changed_there : (Value → Result Value CallStop) → Key → Array → Result Value CallStop

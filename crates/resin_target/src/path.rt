@@ -1,5 +1,5 @@
 //! The postfixes of a target, their index expressions evaluated.
-ghost use Rattle.std.specs.Prelude.{◌≡◌, IfOk};
+ghost use Rattle.std.specs.Prelude.{◌≡◌, ◌↔◌, IfOk, IsTrue};
 ghost use Rattle.resin_target.specs.Paths.{no_postfix, with_index, with_property};
 
 use resin_machine::under::items::{Items, SharedBytes};
@@ -38,6 +38,13 @@ impl Path {
             hops: Items::new(alloc),
             indices: Items::new(alloc),
         }
+    }
+
+    /// Whether it is the path of a variable alone.
+    pub fn is_alone(&self) -> bool
+        ensures { IsTrue result ↔ (self.now ≡ no_postfix) }
+    {
+        self.hops.is_empty() && self.indices.is_empty()
     }
 
     /// The path with one more index.

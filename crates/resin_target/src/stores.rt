@@ -1,5 +1,5 @@
 //! Stores into values, and what stands in them.
-ghost use Rattle.std.specs.Prelude.{◌≡◌, ◌≤◌, IfOk, OnOk, IsTrue, Ok};
+ghost use Rattle.std.specs.Prelude.{◌≡◌, ◌≤◌, ◌∷◌, [], IfOk, OnOk, IsTrue, Ok};
 ghost use Rattle.resin_ops.specs.Under.value.Keys.{is_lawful};
 ghost use Rattle.resin_ops.specs.Under.value.Changes.{empty as empty_array};
 ghost use Rattle.resin_ops.specs.Under.value.declared.value.Value.{Value as AnyValue};
@@ -68,6 +68,15 @@ fn put_in(array: Arr, key: &Key, v: Value) -> Result<Value, CallStop>
     }
 }
 
+// What stands here once a value is stored under one index: what stood there is overwritten, and not taken out first.
+fn stored_last(alloc: Global, here: Value, index: &Index, v: Value) -> Result<Value, CallStop>
+    ensures { GivesOrNoMemory result (rule.stored (index.now ∷ []) v here) }
+{
+    let array = array_of(alloc, here)?;
+    let key = key_in(alloc, index, &array)?;
+    put_in(array, &key, v)
+}
+
 /// What stands here once a value is stored under these indices. An array that none else holds is changed in its place.
 #[cycle(storing)]
 pub(crate) fn stored(
@@ -80,6 +89,7 @@ pub(crate) fn stored(
 {
     match indices {
         [] => Ok(v),
+        [last] => stored_last(alloc, here, last, v),
         [index, rest @ ..] => {
             let mut array = array_of(alloc, here)?;
             let key = key_in(alloc, index, &array)?;
@@ -218,6 +228,9 @@ fn height_with(
     ensures { GivesOrNoMemory result (height_of (rule.with_change index.now (λ below. rule.stored rest.now v.now below) array.now)) }
 {
     let key = key_in(alloc, index, array)?;
+    if rest.is_empty() {
+        return raised(array.height(), Ok(height_in(v)));
+    }
     match array.get(&key) {
         Some(below) => raised(array.height(), stored_height(alloc, below, rest, v)),
         None => raised(array.height(), stored_height(alloc, &Value::Null, rest, v)),

@@ -104,8 +104,8 @@ fn height_at(
     }
 }
 
-// A store at a place that can be done, in the array's place where none else holds it.
-fn store_there(
+// A store under indices of a place that can be done, in the array's place where none else holds it.
+fn store_key(
     alloc: Global,
     m: &mut Machine,
     at: &Place,
@@ -122,6 +122,25 @@ fn store_there(
     }
 }
 
+// A store at a place, where no index is left, or under indices of it.
+fn store_there(
+    alloc: Global,
+    m: &mut Machine,
+    at: &Place,
+    indices: &[Index],
+    v: Value,
+) -> Result<(), Stop>
+    ensures acts { ActsLoosely (step.store_there at.now indices.now v) m.old result m.new }
+{
+    if indices.is_empty() {
+        return put(m, at, v);
+    }
+    match height_at(alloc, m, at, indices, &v) {
+        Ok(_) => store_key(alloc, m, at, indices, v),
+        Err(stop) => m.settle(Err(stop)),
+    }
+}
+
 /// `t = v`, where t is a variable with these postfixes. It is BadOperand exactly where an index stands under a value that is neither null nor an
 /// array, an index is no key, or a property is set of no object; an Error is thrown where an array has no next index; ArrayTooDeep comes where an
 /// array would be more than 100 high. Keys are turned from the left, and nothing is changed unless all is well. An array that none else holds is
@@ -135,14 +154,12 @@ pub fn store(
 ) -> Result<(), Stop>
     ensures acts { ActsLoosely (step.store name.now path.now v) m.old result m.new }
 {
-    let at = match reached(alloc, m, name, path) {
-        Ok(Some(at)) => at,
-        Ok(None) => return Err(m.fault(ScriptFault::BadOperand)),
-        Err(stop) => return m.settle(Err(stop)),
-    };
-    let indices = path.indices.as_slice();
-    match height_at(alloc, m, &at, indices, &v) {
-        Ok(_) => store_there(alloc, m, &at, indices, v),
+    if path.is_alone() {
+        return m.assign(name.as_slice(), v);
+    }
+    match reached(alloc, m, name, path) {
+        Ok(Some(at)) => store_there(alloc, m, &at, path.indices.as_slice(), v),
+        Ok(None) => Err(m.fault(ScriptFault::BadOperand)),
         Err(stop) => m.settle(Err(stop)),
     }
 }

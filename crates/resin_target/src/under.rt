@@ -2,7 +2,7 @@
 
 /// `resin_machine`
 pub mod machine {
-    pub use resin_machine::{Finished, Machine, Stage, Stop};
+    pub use resin_machine::{Finished, Machine, RuntimeClasses, Stage, Stop};
 }
 
 pub use resin_machine::under::{heap, items, journal, tree};

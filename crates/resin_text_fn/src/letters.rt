@@ -1,8 +1,7 @@
 //! Texts with other letters, or in the other order.
 ghost use Rattle.std.specs.Prelude.{◌≡◌, ◌≤◌, ◌++◌, length, map, reverse, slice_range, Ok, IfOk};
 ghost use Rattle.std.specs.Char.{to_ascii_uppercase, to_ascii_lowercase};
-ghost use Rattle.std.specs.List.{zip};
-ghost use Rattle.resin_lstr.specs.Texts.{sets_of, carrying};
+ghost use Rattle.resin_lstr.specs.Texts.{carrying};
 ghost use Rattle.resin_lstr.specs.Faults.{GivesText};
 ghost use Rattle.resin_lstr.specs.Runs.{last_end};
 ghost use Rattle.resin_scalar.specs.Stops.{Gives};
@@ -12,14 +11,13 @@ use crate::stop::text_stop;
 use resin_lstr::{Builder, LText, Run, TextFault};
 use resin_scalar::CallStop;
 use std::alloc::{AllocError, Global};
-use std::rc::RcSlice;
 
 /// `strtoupper`: the text with `a` to `z` in upper case. Its runs are those of `s`, shared.
 pub fn strtoupper(alloc: Global, s: &LText) -> Result<LText, CallStop>
     ensures { Gives result (Ok (strtoupper s.now)) }
 {
     let bytes = upper_bytes(alloc, s.bytes())?;
-    Ok(with_bytes(s, bytes)?)
+    Ok(s.with_bytes(alloc, bytes)?)
 }
 
 /// `strtolower`: the text with `A` to `Z` in lower case. Its runs are those of `s`, shared.
@@ -27,7 +25,7 @@ pub fn strtolower(alloc: Global, s: &LText) -> Result<LText, CallStop>
     ensures { Gives result (Ok (strtolower s.now)) }
 {
     let bytes = lower_bytes(alloc, s.bytes())?;
-    Ok(with_bytes(s, bytes)?)
+    Ok(s.with_bytes(alloc, bytes)?)
 }
 
 /// `ucfirst`: the text with its first byte in upper case. Its runs are those of `s`, shared.
@@ -37,7 +35,7 @@ pub fn ucfirst(alloc: Global, s: &LText) -> Result<LText, CallStop>
     let (first, others) = s.bytes().split_at(s.len().min(1));
     let mut bytes = upper_bytes(alloc, first)?;
     bytes.extend_from_slice(others)?;
-    Ok(with_bytes(s, bytes)?)
+    Ok(s.with_bytes(alloc, bytes)?)
 }
 
 // The bytes with `a` to `z` in upper case.
@@ -52,16 +50,6 @@ fn lower_bytes(alloc: Global, bytes: &[u8]) -> Result<Vec<u8>, AllocError>
     ensures { IfOk result (λ v. v.items ≡ map to_ascii_lowercase bytes.now) }
 {
     bytes.iter().map(|b| b.to_ascii_lowercase()).collect(alloc)
-}
-
-// The text with other bytes, each with the set at its place.
-fn with_bytes(s: &LText, bytes: Vec<u8>) -> Result<LText, AllocError>
-    requires { length bytes.items ≡ length s.now }
-    ensures { IfOk result (λ t. t ≡ zip bytes.items (sets_of s.now)) }
-{
-    let bytes = RcSlice::from_vec(bytes)?;
-    let runs = s.runs.clone()?;
-    Ok(LText { bytes, runs })
 }
 
 /// `strrev`: the bytes in the other order, each with its set.

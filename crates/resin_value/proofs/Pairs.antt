@@ -7,19 +7,10 @@ use Rattle.std.proofs.lemmas.List.Recursion.{is_position_or_len}
 use Rattle.std.proofs.lemmas.Bool.{true≢false}
 use Rattle.std.proofs.lemmas.Bool.Decides.{nat_tests}
 use Rattle.resin_value.specs.declared.key.Key.{Key}
-use Rattle.resin_value.specs.declared.key.Key.TheVariants.{Int, Text}
 use Rattle.resin_value.specs.declared.value.Value.{Value}
-use Rattle.resin_value.specs.contracts.key.KeyPartialEq.TheImpl.{eq-value}
 use Rattle.resin_value.specs.Keys.{key_eq}
 use Rattle.resin_value.specs.Seen.{tree_of, paired}
 use Rattle.resin_value.specs.Changes.{lookup, put_at, remove_at}
-
--- the test by which the set of keys finds a key
-pub derived_eq : (a b : Key) → eq-value.it a b ≡ key_eq a b
-derived_eq (Int m) (Int n) = refl
-derived_eq (Text a) (Text b) = refl
-derived_eq (Int m) (Text b) = refl
-derived_eq (Text a) (Int n) = refl
 
 -- the place of a key, the length where it isn't there
 abbrev pub place : Key → List Key → ℕ
@@ -37,12 +28,12 @@ at_none : (b : Bool) (n : ℕ) → None ≡ cond b (Some n) None → b ≡ false
 at_none true n e = cc
 at_none false n e = refl
 
-in_own_words : (k : Key) (ks : List Key) → position (eq-value.it k) ks ≡ cond (ltb (place k ks) (length ks)) (Some (place k ks)) None
+pub in_own_words : (k : Key) (ks : List Key) → position (key_eq k) ks ≡ cond (ltb (place k ks) (length ks)) (Some (place k ks)) None
 in_own_words k ks =
-    (λ i. position (λ j. derived_eq k j i) ks) ∙ (λ i. cond (ltb (sym (place_is k ks) i) (length ks)) (Some (sym (place_is k ks) i)) None)
+    (λ i. cond (ltb (sym (place_is k ks) i) (length ks)) (Some (sym (place_is k ks) i)) None)
 
--- what the set of keys says of a key that it has
-pub found_place : (k : Key) (ks : List Key) (i : ℕ) → Some i ≡ position (eq-value.it k) ks → (place k ks ≡ i) × (i < length ks)
+-- what the list of keys says of a key that it has
+pub found_place : (k : Key) (ks : List Key) (i : ℕ) → Some i ≡ position (key_eq k) ks → (place k ks ≡ i) × (i < length ks)
 found_place k ks i e =
     let h = at_some _ _ i (e ∙ in_own_words k ks) in
     let at : place k ks ≡ i = h.0 in
@@ -50,7 +41,7 @@ found_place k ks i e =
     (at, grind (arith, nat_tests))
 
 -- and of one that it lacks
-pub past_place : (k : Key) (ks : List Key) → None ≡ position (eq-value.it k) ks → length ks ≤ place k ks
+pub past_place : (k : Key) (ks : List Key) → None ≡ position (key_eq k) ks → length ks ≤ place k ks
 past_place k ks e =
     let past : ltb (place k ks) (length ks) ≡ false = at_none _ _ (e ∙ in_own_words k ks) in
     grind (arith, nat_tests)
@@ -108,18 +99,15 @@ module _ (k : Key) where
         | false ↦ λ n. ap (λ zs. e ∷ zs) (remove_absent es n)
       ] h
 
-  absent_own : (ks : List Key) (vs : List Value) → length ks ≡ length vs → lookup k (paired ks vs) ≡ None → list_any (key_eq k) ks ≡ false
-  absent_own [] vs same h = refl
-  absent_own (j ∷ ks) [] same h = absurd (omega arith)
-  absent_own (j ∷ ks) (v ∷ vs) same h =
+  -- a key without a value is new to the list of keys
+  pub absent_key : (ks : List Key) (vs : List Value) → length ks ≡ length vs → lookup k (paired ks vs) ≡ None → list_any (key_eq k) ks ≡ false
+  absent_key [] vs same h = refl
+  absent_key (j ∷ ks) [] same h = absurd (omega arith)
+  absent_key (j ∷ ks) (v ∷ vs) same h =
       elim (key_eq k j) as (λ b. (if b then Some (tree_of v) else lookup k (paired ks vs)) ≡ None → (b || list_any (key_eq k) ks) ≡ false) [
         | true ↦ λ n. absurd (true≢false (ap is_some n))
-        | false ↦ λ n. absent_own ks vs (omega arith) n
+        | false ↦ λ n. absent_key ks vs (omega arith) n
       ] h
-
-  -- a key without a value is new to the set of keys
-  pub absent_key : (ks : List Key) (vs : List Value) → length ks ≡ length vs → lookup k (paired ks vs) ≡ None → list_any (eq-value.it k) ks ≡ false
-  absent_key ks vs same h = (λ i. list_any (λ j. derived_eq k j i) ks) ∙ absent_own ks vs same h
 
   pub paired_push : (w : Value) (ks : List Key) (vs : List Value) → length ks ≡ length vs → paired (ks ++ k ∷ []) (vs ++ w ∷ []) ≡ paired ks vs ++ (k, tree_of w) ∷ []
   paired_push w [] [] same = refl

@@ -14,6 +14,8 @@ pub use Rattle.resin_value.specs.Compare.{scalar_of, is_true, order_trees, equal
 pub mod Laws
 pub use Rattle.resin_value.specs.Laws.{FindsWhatWasPut, PutsAtOneKey, ForgetsWhatWasRemoved, RemovesOneKey, AppendsLast, IgnoresLabels}
 -- what these stand on
+pub mod Placed
+pub mod Kept
 pub mod Trees
 pub mod Values
 pub mod Under

@@ -1,28 +1,39 @@
 //! Keys of arrays.
 ghost use Rattle.std.specs.Prelude.{◌≡◌, ◌++◌, ◌∷◌, [], nat_eq, OnOk, OnErr, IfOk};
 ghost use Rattle.std.specs.Hash as fed;
-ghost use Rattle.std.specs.Cmp.Lexicographic.{pointwise, nat_list_eq_equiv};
+ghost use Rattle.std.specs.Ordering.{nat_cmp, as_partial_cmp};
+ghost use Rattle.std.specs.Cmp.Lexicographic.{pointwise, slice_cmp, nat_list_eq_equiv};
 ghost use Rattle.std.specs.Cmp.{partial_equiv_from_equiv};
-ghost use Rattle.std.specs.Cmp.Rules.{hashing};
+ghost use Rattle.std.specs.Cmp.Rules.{comparing, hashing};
 ghost use Rattle.std.proofs.Common.{rules};
 
 use resin_bytes::canonical_key;
 use std::alloc::{AllocError, Global};
+use std::cmp::Ordering;
 use std::hash::{Hash, Hasher};
 use std::marker::Model;
+use std::rc::RcSlice;
 
-/// The bytes of a key that is a text.
-#[derive(Drop)]
+/// The bytes of a key that is a text. Copies share them.
 pub struct KeyText {
-    items: Vec<u8>,
+    alloc: Global,
+    // None for the empty text.
+    items: Option<RcSlice<u8>>,
+}
+
+impl Drop for KeyText {
+    fn drop(self) {
+        let KeyText { alloc: _, items: _ } = self;
+    }
 }
 
 impl Model for KeyText {
     ghost use Rattle.std.specs.Prelude.{ℕ, List};
+    ghost use Rattle.resin_value.specs.Kept.{bytes_kept};
 
     ghost Value = { List ℕ };
 
-    ghost view = { λ a. a.items.items };
+    ghost view = { λ a. bytes_kept a.items };
 }
 
 impl KeyText {
@@ -30,17 +41,17 @@ impl KeyText {
     pub fn new(alloc: Global) -> KeyText
         ensures { result ≡ [] }
     {
-        KeyText {
-            items: Vec::new(alloc),
-        }
+        KeyText { alloc, items: None }
     }
 
     /// The bytes of a slice.
     pub fn from_slice(alloc: Global, items: &[u8]) -> Result<KeyText, AllocError>
         ensures { IfOk result (λ text. text ≡ items.now) }
     {
+        let items = RcSlice::from_slice(alloc, items)?;
         Ok(KeyText {
-            items: Vec::from_slice(alloc, items)?,
+            alloc,
+            items: Some(items),
         })
     }
 
@@ -48,15 +59,20 @@ impl KeyText {
     pub fn as_slice(&self) -> &[u8]
         ensures { result.now ≡ self.now }
     {
-        self.items.as_slice()
+        match &self.items {
+            None => &[],
+            Some(items) => items.as_slice(),
+        }
     }
 
-    /// Puts a byte last. After want of memory the text is as before.
+    /// Puts a byte last, in a copy of the bytes that it no longer shares. After want of memory the text is as before.
     pub fn push(&mut self, item: u8) -> Result<(), AllocError>
         ensures ok { OnOk result (self.new ≡ self.old ++ item ∷ []) }
         ensures err { OnErr result (self.new ≡ self.old) }
     {
-        self.items.push(item)?;
+        let mut items = Vec::from_slice(self.alloc, self.as_slice())?;
+        items.push(item)?;
+        self.items = Some(RcSlice::from_vec(items)?);
         Ok(())
     }
 }
@@ -65,9 +81,16 @@ impl Clone for KeyText {
     ghost is_clone = { λ k copy. copy ≡ k };
 
     fn clone(&self) -> Result<KeyText, AllocError> {
-        Ok(KeyText {
-            items: self.items.clone()?,
-        })
+        match &self.items {
+            None => Ok(KeyText::new(self.alloc)),
+            Some(items) => {
+                let items = items.clone()?;
+                Ok(KeyText {
+                    alloc: self.alloc,
+                    items: Some(items),
+                })
+            }
+        }
     }
 }
 
@@ -85,6 +108,30 @@ impl Eq for KeyText {
     ghost laws = { nat_list_eq_equiv };
 }
 
+impl PartialOrd for KeyText {
+    ghost partial_cmp = { as_partial_cmp (slice_cmp nat_cmp) };
+
+    ghost laws = { Prim.search (comparing, rules) };
+
+    fn partial_cmp(&self, other: &KeyText) -> Option<Ordering> {
+        Some(self.cmp(other))
+    }
+}
+
+impl Ord for KeyText {
+    ghost cmp = { slice_cmp nat_cmp };
+
+    ghost total = { Prim.search (comparing, rules) };
+
+    ghost matches_partial_cmp = { Prim.search (comparing, rules) };
+
+    ghost matches_eq = { Prim.search (comparing, rules) };
+
+    fn cmp(&self, other: &KeyText) -> Ordering {
+        self.as_slice().cmp(other.as_slice())
+    }
+}
+
 impl Hash for KeyText {
     ghost hash_input = { fed.slice fed.u8 };
 
@@ -95,8 +142,9 @@ impl Hash for KeyText {
     }
 }
 
-/// A key of an array. A text that is a canonical decimal in range stands as an integer instead.
-#[derive(Drop, Eq, Hash, PartialEq)]
+/// A key of an array. A text that is a canonical decimal in range stands as an integer instead. Integers are ordered before texts, texts by
+/// their bytes.
+#[derive(Drop, Eq, Hash, Ord, PartialEq, PartialOrd)]
 pub enum Key {
     Int(i64),
     Text(KeyText),

@@ -4,10 +4,19 @@
 //! key ever used and its height (`specs/Arrays.antt`). Each look-up and change gives exactly what the rules of arrays say (`specs/Keys.antt`,
 //! `Changes.antt`), and each comparison what PHP's tables say without floats (`specs/Compare.antt`); `array_laws` says what these rules come to
 //! (`specs/Laws.antt`). The module `under` passes on what values stand on.
+//!
+//! ```rust
+//! let mut array = Arr::new(alloc)?;
+//! array.put(&Key::Int(8), Value::Bool(true))?;
+//! array.append(Value::Null)?; // at the key 9
+//! let copy = array.clone()?; // shares the entries until one of the two is written
+//! let found = array.get(&Key::from_text(alloc, b"8")?); // the text `8` counts as the key 8
+//! ```
 #![tactic(auto)]
 
 mod compare;
 mod key;
+mod keys;
 mod laws;
 mod lists;
 pub mod under;

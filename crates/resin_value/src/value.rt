@@ -7,7 +7,7 @@ ghost use Rattle.resin_value.specs.Changes.{lookup, put_at, remove_at, raised, n
 ghost use Rattle.resin_value.specs.Changes as changes;
 
 use crate::key::Key;
-use indexmap::IndexSet;
+use crate::keys::KeyList;
 use resin_label::PSet;
 use resin_lstr::LText;
 use resin_scalar::{Scalar, truth};
@@ -73,7 +73,7 @@ pub(crate) struct Body {
 #[derive(Drop)]
 #[cycle(value)]
 pub(crate) struct Entries {
-    pub(crate) keys: IndexSet<Key>,
+    pub(crate) keys: KeyList,
     pub(crate) values: Vec<Value>,
 }
 
@@ -87,15 +87,15 @@ impl Model for Entries {
 
     ghost use Rattle.resin_value.specs.Seen.{paired};
 
-    ghost view = { λ a. paired a.keys.keys a.values.items };
+    ghost view = { λ a. paired a.keys a.values.items };
 
-    ghost invariant = { λ a. length a.keys.keys ≡ length a.values.items };
+    ghost invariant = { λ a. length a.keys ≡ length a.values.items };
 
     ghost size = { entries_size };
 
     ghost use Rattle.resin_value.specs.Falls.{falls};
 
-    ghost size_decreases = { λ a h. falls a.keys.keys a.values.items h };
+    ghost size_decreases = { λ a h. falls a.keys a.values.items h };
 }
 
 impl Model for Arr {
@@ -213,7 +213,7 @@ impl Entries {
         ensures { result ≡ [] }
     {
         Entries {
-            keys: IndexSet::new(alloc),
+            keys: KeyList::new(alloc),
             values: Vec::new(alloc),
         }
     }
@@ -229,7 +229,7 @@ impl Entries {
     pub(crate) fn get(&self, k: &Key) -> Option<&Value>
         ensures { option_map (λ v. tree_of v.now) result ≡ lookup k.now self.now }
     {
-        match self.keys.get_index_of(k) {
+        match self.keys.place(k) {
             Some(i) => Some(&self.values[i]),
             None => None,
         }
@@ -248,7 +248,7 @@ impl Entries {
         ensures ok { OnOk result (self.new ≡ put_at k.now (tree_of v) self.old) }
         ensures err { OnErr result (self.new ≡ self.old) }
     {
-        match self.keys.get_index_of(k) {
+        match self.keys.place(k) {
             Some(i) => {
                 self.values[i] = v;
                 Ok(())
@@ -264,27 +264,23 @@ impl Entries {
         ensures err { OnErr result (self.new ≡ self.old) }
     {
         self.values.reserve(1)?;
-        self.keys.insert(k)?;
+        self.keys.push(k)?;
         self.values.push(v)?;
         Ok(())
     }
 
-    // Takes out the entry at a key, and keeps the order of the others.
-    fn remove(&mut self, k: &Key)
-        ensures { self.new ≡ remove_at k.now self.old }
+    // Takes out the entry at a key, and keeps the order of the others: those behind it are moved.
+    fn remove(&mut self, k: &Key) -> Result<(), AllocError>
+        ensures ok { OnOk result (self.new ≡ remove_at k.now self.old) }
+        ensures err { OnErr result (self.new ≡ self.old) }
     {
-        if let Some(i) = self.keys.get_index_of(k) {
-            take_key(&mut self.keys, i);
-            take_value(&mut self.values, i);
-        }
+        let Some(i) = self.keys.place(k) else {
+            return Ok(());
+        };
+        self.keys.remove(i)?;
+        take_value(&mut self.values, i);
+        Ok(())
     }
-}
-
-// Takes out the key at a place, and keeps the order of the others.
-fn take_key(keys: &mut IndexSet<Key>, i: usize)
-    ensures { keys.new.keys ≡ remove keys.old.keys i }
-{
-    let _key = keys.shift_remove_index(i);
 }
 
 // Takes out the value at a place, and keeps the order of the others.
@@ -409,7 +405,7 @@ impl Arr {
             return Ok(false);
         }
         let body = Rc::make_mut(&mut self.body)?;
-        body.remove(k);
+        body.remove(k)?;
         Ok(true)
     }
 }
@@ -442,10 +438,11 @@ impl Body {
     }
 
     // Takes out the entry at a key.
-    fn remove(&mut self, k: &Key)
-        ensures { seen self.new ≡ without k.now (seen self.old) }
+    fn remove(&mut self, k: &Key) -> Result<(), AllocError>
+        ensures ok { OnOk result (seen self.new ≡ without k.now (seen self.old)) }
+        ensures err { OnErr result (seen self.new ≡ seen self.old) }
     {
-        self.entries.remove(k);
+        self.entries.remove(k)
     }
 }
 

@@ -66,7 +66,7 @@ pub returns : goal.returns
 returns g c =
     let f = seen (g.F.Files.stored c.args.files.now) (g.F.Files.faults c.args.files.now) (g.F.Files.answers c.args.files.now) in
     let t = seen (g.T.Tables.stored c.args.tables.now) (g.T.Tables.faults c.args.tables.now) (g.T.Tables.answers c.args.tables.now) in
-    let s = c.run_request-finish in
+    let s = c.run-finish in
     let f' = seen (g.F.Files.stored s.new.files) (g.F.Files.faults s.new.files) (g.F.Files.answers s.new.files) in
     let t' = seen (g.T.Tables.stored s.new.tables) (g.T.Tables.faults s.new.tables) (g.T.Tables.answers s.new.tables) in
     let u = world c.in_ok-m.m (labelled f) t c.args.calls.now in
@@ -74,23 +74,23 @@ returns g c =
     let path : c.as_slice-2.result.now ≡ path_of c.args.r.now.target = c.as_slice-2.ensures.value ∙ c.in_ok-path.ensures ∙ ap path_of c.as_slice.ensures in
     let path-3 : c.as_slice-3.result.now ≡ path_of c.args.r.now.target = c.as_slice-3.ensures.value ∙ sym c.as_slice-2.ensures.value ∙ path in
     let begins : c.in_ok-m.m ≡ new_state c.args.site.now c.args.number = c.in_ok-m.ensures.value ∙ ap (λ n. new_state n c.args.number) c.fuel.ensures in
-    let d = as_asked c.args.site.now c.args.number c.args.r.now c.as_slice-2.result.now c.in_ok-inputs.inputs c.in_ok-m.m (labelled f) t c.args.calls.now s.result w path c.in_ok-inputs.ensures begins s.ensures in
+    let d = as_asked c.args.site.now c.args.number c.args.r.now c.as_slice-2.result.now c.in_ok-inputs.inputs c.in_ok-m.m (labelled f) t c.args.calls.now s.result w path c.in_ok-inputs.ensures begins s.ensures.does in
     let is : IfOk c.outcome_for.result (λ o. o ≡ outcome (path_of c.args.r.now.target) (is_head c.args.r.now.method) s.result s.new.m) =
     subst (λ h. IfOk c.outcome_for.result (λ o. o ≡ outcome (path_of c.args.r.now.target) h s.result s.new.m)) c.is_head.ensures
     (subst (λ p. IfOk c.outcome_for.result (λ o. o ≡ outcome p c.is_head.result s.result s.new.m)) path-3 c.outcome_for.ensures.outcome) in
-    let up = made_up u w (done s.ensures).goes in
-    let b = (done s.ensures).blames in
+    let up = made_up u w (done s.ensures.does).goes in
+    let b = (done s.ensures.does).blames in
     record {
-      site = refl;
+      site = s.ensures.kept;
       numbered = numbered_after s.result u w up b c.requires;
       later = passes s.result u w up b;
       served = λ K k. served_end c.args.site.now c.args.number c.args.r.now f f' t t' c.args.calls.now s.new.calls s.new.m s.result c.requires d K k c.outcome_for.result is c.outcome_for.ensures.memory;
-      lawful = lawful_end c.args.site.now c.args.number _ c.in_ok-m.m s.new.m (labelled f) (labelled f') t t' c.args.calls.now s.new.calls s.result c.outcome_for.result begins c.in_ok-m.ensures.tied s.ensures
+      lawful = lawful_end c.args.site.now c.args.number _ c.in_ok-m.m s.new.m (labelled f) (labelled f') t t' c.args.calls.now s.new.calls s.result c.outcome_for.result begins c.in_ok-m.ensures.tied s.ensures.does
           c.outcome_for.ensures.memory c.outcome_for.ensures.lawful;
       ends = ends_end (path_of c.args.r.now.target) (is_head c.args.r.now.method) s.new.m u w s.result c.outcome_for.result is c.outcome_for.ensures.memory b;
       blames = blames s.result u w b;
       counted = counted s.result u w b;
       framed = is_framed c.args.site.now c.args.calls.now.made c.args.number c.args.r.now;
       isolated = is_isolated c.args.site.now c.args.calls.now.made c.args.number c.args.r.now;
-      told = ((done s.ensures).goes.calls, tells u w c.requires (done s.ensures).goes);
+      told = ((done s.ensures.does).goes.calls, tells u w c.requires (done s.ensures.does).goes);
     }

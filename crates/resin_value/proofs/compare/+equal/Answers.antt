@@ -24,7 +24,7 @@ equal-returns-else-len-clause-answer t c =
 pub equal_entries-returns-in_err-spend-clause-answer : goal.equal_entries-returns-in_err-spend-clause-answer
 equal_entries-returns-in_err-spend-clause-answer t c =
     let s = c.x.inside in
-    let within : c.loop-i.i < length c.args.x.now = omega (arith, length-paired s.keys.keys s.values.items c.x.invariant, ap length c.x.view_is, ap length c.deref-v-items.ensures.value, c.loop-i-test.true) in
+    let within : c.loop-i.i < length c.args.x.now = omega (arith, length-paired s.keys s.values.items c.x.invariant, ap length c.x.view_is, ap length c.deref-v-items.ensures.value, c.loop-i-test.true) in
     let whole = equal_spent c.args.x.now c.args.y.now c.args.t.now.left c.loop-i.i c.loop-i.t.left c.loop-i.invariant within c.in_err-spend.ensures.short in
     let p = err_from_is_err_and c.from_residual.result c.from_residual.ensures.1 in
     p.1 ∙ ap Err p.2 ∙ (λ i. (sym whole i).0)
@@ -46,7 +46,7 @@ equal-returns-else-len-clause-charged t c =
 pub equal_entries-returns-in_err-spend-clause-charged : goal.equal_entries-returns-in_err-spend-clause-charged
 equal_entries-returns-in_err-spend-clause-charged t c =
     let s = c.x.inside in
-    let within : c.loop-i.i < length c.args.x.now = omega (arith, length-paired s.keys.keys s.values.items c.x.invariant, ap length c.x.view_is, ap length c.deref-v-items.ensures.value, c.loop-i-test.true) in
+    let within : c.loop-i.i < length c.args.x.now = omega (arith, length-paired s.keys s.values.items c.x.invariant, ap length c.x.view_is, ap length c.deref-v-items.ensures.value, c.loop-i-test.true) in
     let whole = equal_spent c.args.x.now c.args.y.now c.args.t.now.left c.loop-i.i c.loop-i.t.left c.loop-i.invariant within c.in_err-spend.ensures.short in
     let none : c.spend.new.self.left ≡ 0 = omega (arith, c.in_err-spend.ensures.kept, c.in_err-spend.ensures.short) in
     none ∙ (λ i. (sym whole i).1)
@@ -58,7 +58,7 @@ equal_entries-returns-in_default-clause-answer t c =
     let v = c.v-item.result in
     let k = c.index.result.now in
     let here : slice_get c.args.x.now i ≡ Some (k, tree_of v) =
-    ap (λ es. slice_get es i) (sym c.x.view_is) ∙ paired_at s.keys.keys s.values.items i k v c.x.invariant c.index.ensures (c.v-item.is ∙ ap (λ vs. get_or vs i v) c.deref-v-items.ensures.value) in
+    ap (λ es. slice_get es i) (sym c.x.view_is) ∙ paired_at s.keys s.values.items i k v c.x.invariant c.index.ensures (c.v-item.is ∙ ap (λ vs. get_or vs i v) c.deref-v-items.ensures.value) in
     let m = c.spend.new.self.left in
     let rest : ℕ → Charged _ = λ p. equal_rows (row_of (drop (i + 1) c.args.x.now)) c.args.y.now p in
     let whole = equal_turn c.args.x.now c.args.y.now c.args.t.now.left i c.loop-i.t.left c.loop-i.invariant k (tree_of v) m here (omega (arith, c.in_ok-spend.ensures.charged))
@@ -72,7 +72,7 @@ equal_entries-returns-in_err-equal-clause-answer t c =
     let v = c.v-item.result in
     let k = c.index.result.now in
     let here : slice_get c.args.x.now i ≡ Some (k, tree_of v) =
-    ap (λ es. slice_get es i) (sym c.x.view_is) ∙ paired_at s.keys.keys s.values.items i k v c.x.invariant c.index.ensures (c.v-item.is ∙ ap (λ vs. get_or vs i v) c.deref-v-items.ensures.value) in
+    ap (λ es. slice_get es i) (sym c.x.view_is) ∙ paired_at s.keys s.values.items i k v c.x.invariant c.index.ensures (c.v-item.is ∙ ap (λ vs. get_or vs i v) c.deref-v-items.ensures.value) in
     let m = c.spend.new.self.left in
     let rest : ℕ → Charged _ = λ p. equal_rows (row_of (drop (i + 1) c.args.x.now)) c.args.y.now p in
     let whole = equal_turn c.args.x.now c.args.y.now c.args.t.now.left i c.loop-i.t.left c.loop-i.invariant k (tree_of v) m here (omega (arith, c.in_ok-spend.ensures.charged))
@@ -88,7 +88,7 @@ equal_entries-returns-then-not-branch-clause-answer t c =
     let v = c.v-item.result in
     let k = c.index.result.now in
     let here : slice_get c.args.x.now i ≡ Some (k, tree_of v) =
-    ap (λ es. slice_get es i) (sym c.x.view_is) ∙ paired_at s.keys.keys s.values.items i k v c.x.invariant c.index.ensures (c.v-item.is ∙ ap (λ vs. get_or vs i v) c.deref-v-items.ensures.value) in
+    ap (λ es. slice_get es i) (sym c.x.view_is) ∙ paired_at s.keys s.values.items i k v c.x.invariant c.index.ensures (c.v-item.is ∙ ap (λ vs. get_or vs i v) c.deref-v-items.ensures.value) in
     let m = c.spend.new.self.left in
     let rest : ℕ → Charged _ = λ p. equal_rows (row_of (drop (i + 1) c.args.x.now)) c.args.y.now p in
     let whole = equal_turn c.args.x.now c.args.y.now c.args.t.now.left i c.loop-i.t.left c.loop-i.invariant k (tree_of v) m here (omega (arith, c.in_ok-spend.ensures.charged))
@@ -100,7 +100,7 @@ equal_entries-returns-then-not-branch-clause-answer t c =
 pub equal_entries-returns-clause-answer : goal.equal_entries-returns-clause-answer
 equal_entries-returns-clause-answer t c =
     let s = c.x.inside in
-    let past : length c.args.x.now ≤ c.loop-i.i = omega (arith, length-paired s.keys.keys s.values.items c.x.invariant, ap length c.x.view_is, ap length c.deref-v-items.ensures.value, c.loop-i-test.false) in
+    let past : length c.args.x.now ≤ c.loop-i.i = omega (arith, length-paired s.keys s.values.items c.x.invariant, ap length c.x.view_is, ap length c.deref-v-items.ensures.value, c.loop-i-test.false) in
     let whole = equal_end c.args.x.now c.args.y.now c.args.t.now.left c.loop-i.i c.loop-i.t.left c.loop-i.invariant past in
     λ i. (sym whole i).0
 
@@ -111,7 +111,7 @@ equal_entries-returns-in_default-clause-charged t c =
     let v = c.v-item.result in
     let k = c.index.result.now in
     let here : slice_get c.args.x.now i ≡ Some (k, tree_of v) =
-    ap (λ es. slice_get es i) (sym c.x.view_is) ∙ paired_at s.keys.keys s.values.items i k v c.x.invariant c.index.ensures (c.v-item.is ∙ ap (λ vs. get_or vs i v) c.deref-v-items.ensures.value) in
+    ap (λ es. slice_get es i) (sym c.x.view_is) ∙ paired_at s.keys s.values.items i k v c.x.invariant c.index.ensures (c.v-item.is ∙ ap (λ vs. get_or vs i v) c.deref-v-items.ensures.value) in
     let m = c.spend.new.self.left in
     let rest : ℕ → Charged _ = λ p. equal_rows (row_of (drop (i + 1) c.args.x.now)) c.args.y.now p in
     let whole = equal_turn c.args.x.now c.args.y.now c.args.t.now.left i c.loop-i.t.left c.loop-i.invariant k (tree_of v) m here (omega (arith, c.in_ok-spend.ensures.charged))
@@ -125,7 +125,7 @@ equal_entries-returns-in_err-equal-clause-charged t c =
     let v = c.v-item.result in
     let k = c.index.result.now in
     let here : slice_get c.args.x.now i ≡ Some (k, tree_of v) =
-    ap (λ es. slice_get es i) (sym c.x.view_is) ∙ paired_at s.keys.keys s.values.items i k v c.x.invariant c.index.ensures (c.v-item.is ∙ ap (λ vs. get_or vs i v) c.deref-v-items.ensures.value) in
+    ap (λ es. slice_get es i) (sym c.x.view_is) ∙ paired_at s.keys s.values.items i k v c.x.invariant c.index.ensures (c.v-item.is ∙ ap (λ vs. get_or vs i v) c.deref-v-items.ensures.value) in
     let m = c.spend.new.self.left in
     let rest : ℕ → Charged _ = λ p. equal_rows (row_of (drop (i + 1) c.args.x.now)) c.args.y.now p in
     let whole = equal_turn c.args.x.now c.args.y.now c.args.t.now.left i c.loop-i.t.left c.loop-i.invariant k (tree_of v) m here (omega (arith, c.in_ok-spend.ensures.charged))
@@ -140,7 +140,7 @@ equal_entries-returns-then-not-branch-clause-charged t c =
     let v = c.v-item.result in
     let k = c.index.result.now in
     let here : slice_get c.args.x.now i ≡ Some (k, tree_of v) =
-    ap (λ es. slice_get es i) (sym c.x.view_is) ∙ paired_at s.keys.keys s.values.items i k v c.x.invariant c.index.ensures (c.v-item.is ∙ ap (λ vs. get_or vs i v) c.deref-v-items.ensures.value) in
+    ap (λ es. slice_get es i) (sym c.x.view_is) ∙ paired_at s.keys s.values.items i k v c.x.invariant c.index.ensures (c.v-item.is ∙ ap (λ vs. get_or vs i v) c.deref-v-items.ensures.value) in
     let m = c.spend.new.self.left in
     let rest : ℕ → Charged _ = λ p. equal_rows (row_of (drop (i + 1) c.args.x.now)) c.args.y.now p in
     let whole = equal_turn c.args.x.now c.args.y.now c.args.t.now.left i c.loop-i.t.left c.loop-i.invariant k (tree_of v) m here (omega (arith, c.in_ok-spend.ensures.charged))
@@ -152,7 +152,7 @@ equal_entries-returns-then-not-branch-clause-charged t c =
 pub equal_entries-returns-clause-charged : goal.equal_entries-returns-clause-charged
 equal_entries-returns-clause-charged t c =
     let s = c.x.inside in
-    let past : length c.args.x.now ≤ c.loop-i.i = omega (arith, length-paired s.keys.keys s.values.items c.x.invariant, ap length c.x.view_is, ap length c.deref-v-items.ensures.value, c.loop-i-test.false) in
+    let past : length c.args.x.now ≤ c.loop-i.i = omega (arith, length-paired s.keys s.values.items c.x.invariant, ap length c.x.view_is, ap length c.deref-v-items.ensures.value, c.loop-i-test.false) in
     let whole = equal_end c.args.x.now c.args.y.now c.args.t.now.left c.loop-i.i c.loop-i.t.left c.loop-i.invariant past in
     λ i. (sym whole i).1
 
@@ -163,7 +163,7 @@ equal_entries-loop-i-preserved t c =
     let v = c.v-item.result in
     let k = c.index.result.now in
     let here : slice_get c.args.x.now i ≡ Some (k, tree_of v) =
-    ap (λ es. slice_get es i) (sym c.x.view_is) ∙ paired_at s.keys.keys s.values.items i k v c.x.invariant c.index.ensures (c.v-item.is ∙ ap (λ vs. get_or vs i v) c.deref-v-items.ensures.value) in
+    ap (λ es. slice_get es i) (sym c.x.view_is) ∙ paired_at s.keys s.values.items i k v c.x.invariant c.index.ensures (c.v-item.is ∙ ap (λ vs. get_or vs i v) c.deref-v-items.ensures.value) in
     let m = c.spend.new.self.left in
     let rest : ℕ → Charged _ = λ p. equal_rows (row_of (drop (i + 1) c.args.x.now)) c.args.y.now p in
     let whole = equal_turn c.args.x.now c.args.y.now c.args.t.now.left i c.loop-i.t.left c.loop-i.invariant k (tree_of v) m here (omega (arith, c.in_ok-spend.ensures.charged))

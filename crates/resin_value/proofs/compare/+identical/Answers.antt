@@ -24,7 +24,7 @@ identical-returns-else-len-clause-answer t c =
 pub identical_entries-returns-in_err-spend-clause-answer : goal.identical_entries-returns-in_err-spend-clause-answer
 identical_entries-returns-in_err-spend-clause-answer t c =
     let s = c.x.inside in
-    let within : c.loop-i.i < length c.args.x.now = omega (arith, length-paired s.keys.keys s.values.items c.x.invariant, ap length c.x.view_is, ap length c.deref-v-items.ensures.value, c.loop-i-test.true) in
+    let within : c.loop-i.i < length c.args.x.now = omega (arith, length-paired s.keys s.values.items c.x.invariant, ap length c.x.view_is, ap length c.deref-v-items.ensures.value, c.loop-i-test.true) in
     let whole = identical_spent c.args.x.now c.args.y.now c.args.t.now.left c.loop-i.i c.loop-i.t.left c.loop-i.invariant within c.in_err-spend.ensures.short in
     let p = err_from_is_err_and c.from_residual.result c.from_residual.ensures.1 in
     p.1 ∙ (λ i. (sym whole i).0)
@@ -46,7 +46,7 @@ identical-returns-else-len-clause-charged t c =
 pub identical_entries-returns-in_err-spend-clause-charged : goal.identical_entries-returns-in_err-spend-clause-charged
 identical_entries-returns-in_err-spend-clause-charged t c =
     let s = c.x.inside in
-    let within : c.loop-i.i < length c.args.x.now = omega (arith, length-paired s.keys.keys s.values.items c.x.invariant, ap length c.x.view_is, ap length c.deref-v-items.ensures.value, c.loop-i-test.true) in
+    let within : c.loop-i.i < length c.args.x.now = omega (arith, length-paired s.keys s.values.items c.x.invariant, ap length c.x.view_is, ap length c.deref-v-items.ensures.value, c.loop-i-test.true) in
     let whole = identical_spent c.args.x.now c.args.y.now c.args.t.now.left c.loop-i.i c.loop-i.t.left c.loop-i.invariant within c.in_err-spend.ensures.short in
     let none : c.spend.new.self.left ≡ 0 = omega (arith, c.in_err-spend.ensures.kept, c.in_err-spend.ensures.short) in
     none ∙ (λ i. (sym whole i).1)
@@ -58,10 +58,10 @@ identical_entries-returns-then-not-same-clause-answer t c =
     let i = c.loop-i.i in
     let v = c.v-item.result in
     let here : slice_get c.args.x.now i ≡ Some (c.index.result.now, tree_of v) =
-    ap (λ es. slice_get es i) (sym c.x.view_is) ∙ paired_at s.keys.keys s.values.items i c.index.result.now v c.x.invariant c.index.ensures (c.v-item.is ∙ ap (λ vs. get_or vs i v) c.deref-v-items.ensures.value) in
+    ap (λ es. slice_get es i) (sym c.x.view_is) ∙ paired_at s.keys s.values.items i c.index.result.now v c.x.invariant c.index.ensures (c.v-item.is ∙ ap (λ vs. get_or vs i v) c.deref-v-items.ensures.value) in
     let u = get_or r.values.items i v in
     let there : slice_get c.args.y.now i ≡ Some (c.index-in-loop-i.result.now, tree_of u) =
-    ap (λ es. slice_get es i) (sym c.y.view_is) ∙ paired_key r.keys.keys r.values.items i c.index-in-loop-i.result.now v c.y.invariant c.index-in-loop-i.ensures in
+    ap (λ es. slice_get es i) (sym c.y.view_is) ∙ paired_key r.keys r.values.items i c.index-in-loop-i.result.now v c.y.invariant c.index-in-loop-i.ensures in
     let m = c.spend.new.self.left in
     let rest : ℕ → Charged _ = λ p. identical_rows (row_of (drop (i + 1) c.args.x.now)) (row_of (drop (i + 1) c.args.y.now)) p in
     let whole = identical_turn c.args.x.now c.args.y.now c.args.t.now.left i c.loop-i.t.left c.loop-i.invariant c.index.result.now c.index-in-loop-i.result.now (tree_of v) (tree_of u) m here there (omega (arith, c.in_ok-spend.ensures.charged))
@@ -75,10 +75,10 @@ identical_entries-returns-in_err-identical-clause-answer t c =
     let i = c.loop-i.i in
     let v = c.v-item.result in
     let here : slice_get c.args.x.now i ≡ Some (c.index.result.now, tree_of v) =
-    ap (λ es. slice_get es i) (sym c.x.view_is) ∙ paired_at s.keys.keys s.values.items i c.index.result.now v c.x.invariant c.index.ensures (c.v-item.is ∙ ap (λ vs. get_or vs i v) c.deref-v-items.ensures.value) in
+    ap (λ es. slice_get es i) (sym c.x.view_is) ∙ paired_at s.keys s.values.items i c.index.result.now v c.x.invariant c.index.ensures (c.v-item.is ∙ ap (λ vs. get_or vs i v) c.deref-v-items.ensures.value) in
     let u = c.index-in-loop-i-2.result.now in
     let there : slice_get c.args.y.now i ≡ Some (c.index-in-loop-i.result.now, tree_of u) =
-    ap (λ es. slice_get es i) (sym c.y.view_is) ∙ paired_at r.keys.keys r.values.items i c.index-in-loop-i.result.now u c.y.invariant c.index-in-loop-i.ensures c.index-in-loop-i-2.ensures in
+    ap (λ es. slice_get es i) (sym c.y.view_is) ∙ paired_at r.keys r.values.items i c.index-in-loop-i.result.now u c.y.invariant c.index-in-loop-i.ensures c.index-in-loop-i-2.ensures in
     let m = c.spend.new.self.left in
     let rest : ℕ → Charged _ = λ p. identical_rows (row_of (drop (i + 1) c.args.x.now)) (row_of (drop (i + 1) c.args.y.now)) p in
     let whole = identical_turn c.args.x.now c.args.y.now c.args.t.now.left i c.loop-i.t.left c.loop-i.invariant c.index.result.now c.index-in-loop-i.result.now (tree_of v) (tree_of u) m here there (omega (arith, c.in_ok-spend.ensures.charged))
@@ -94,10 +94,10 @@ identical_entries-returns-then-not-branch-clause-answer t c =
     let i = c.loop-i.i in
     let v = c.v-item.result in
     let here : slice_get c.args.x.now i ≡ Some (c.index.result.now, tree_of v) =
-    ap (λ es. slice_get es i) (sym c.x.view_is) ∙ paired_at s.keys.keys s.values.items i c.index.result.now v c.x.invariant c.index.ensures (c.v-item.is ∙ ap (λ vs. get_or vs i v) c.deref-v-items.ensures.value) in
+    ap (λ es. slice_get es i) (sym c.x.view_is) ∙ paired_at s.keys s.values.items i c.index.result.now v c.x.invariant c.index.ensures (c.v-item.is ∙ ap (λ vs. get_or vs i v) c.deref-v-items.ensures.value) in
     let u = c.index-in-loop-i-2.result.now in
     let there : slice_get c.args.y.now i ≡ Some (c.index-in-loop-i.result.now, tree_of u) =
-    ap (λ es. slice_get es i) (sym c.y.view_is) ∙ paired_at r.keys.keys r.values.items i c.index-in-loop-i.result.now u c.y.invariant c.index-in-loop-i.ensures c.index-in-loop-i-2.ensures in
+    ap (λ es. slice_get es i) (sym c.y.view_is) ∙ paired_at r.keys r.values.items i c.index-in-loop-i.result.now u c.y.invariant c.index-in-loop-i.ensures c.index-in-loop-i-2.ensures in
     let m = c.spend.new.self.left in
     let rest : ℕ → Charged _ = λ p. identical_rows (row_of (drop (i + 1) c.args.x.now)) (row_of (drop (i + 1) c.args.y.now)) p in
     let whole = identical_turn c.args.x.now c.args.y.now c.args.t.now.left i c.loop-i.t.left c.loop-i.invariant c.index.result.now c.index-in-loop-i.result.now (tree_of v) (tree_of u) m here there (omega (arith, c.in_ok-spend.ensures.charged))
@@ -109,7 +109,7 @@ identical_entries-returns-then-not-branch-clause-answer t c =
 pub identical_entries-returns-clause-answer : goal.identical_entries-returns-clause-answer
 identical_entries-returns-clause-answer t c =
     let s = c.x.inside in
-    let past : length c.args.x.now ≤ c.loop-i.i = omega (arith, length-paired s.keys.keys s.values.items c.x.invariant, ap length c.x.view_is, ap length c.deref-v-items.ensures.value, c.loop-i-test.false) in
+    let past : length c.args.x.now ≤ c.loop-i.i = omega (arith, length-paired s.keys s.values.items c.x.invariant, ap length c.x.view_is, ap length c.deref-v-items.ensures.value, c.loop-i-test.false) in
     let whole = identical_end c.args.x.now c.args.y.now c.args.t.now.left c.loop-i.i c.loop-i.t.left c.loop-i.invariant past in
     λ i. (sym whole i).0
 
@@ -120,10 +120,10 @@ identical_entries-returns-then-not-same-clause-charged t c =
     let i = c.loop-i.i in
     let v = c.v-item.result in
     let here : slice_get c.args.x.now i ≡ Some (c.index.result.now, tree_of v) =
-    ap (λ es. slice_get es i) (sym c.x.view_is) ∙ paired_at s.keys.keys s.values.items i c.index.result.now v c.x.invariant c.index.ensures (c.v-item.is ∙ ap (λ vs. get_or vs i v) c.deref-v-items.ensures.value) in
+    ap (λ es. slice_get es i) (sym c.x.view_is) ∙ paired_at s.keys s.values.items i c.index.result.now v c.x.invariant c.index.ensures (c.v-item.is ∙ ap (λ vs. get_or vs i v) c.deref-v-items.ensures.value) in
     let u = get_or r.values.items i v in
     let there : slice_get c.args.y.now i ≡ Some (c.index-in-loop-i.result.now, tree_of u) =
-    ap (λ es. slice_get es i) (sym c.y.view_is) ∙ paired_key r.keys.keys r.values.items i c.index-in-loop-i.result.now v c.y.invariant c.index-in-loop-i.ensures in
+    ap (λ es. slice_get es i) (sym c.y.view_is) ∙ paired_key r.keys r.values.items i c.index-in-loop-i.result.now v c.y.invariant c.index-in-loop-i.ensures in
     let m = c.spend.new.self.left in
     let rest : ℕ → Charged _ = λ p. identical_rows (row_of (drop (i + 1) c.args.x.now)) (row_of (drop (i + 1) c.args.y.now)) p in
     let whole = identical_turn c.args.x.now c.args.y.now c.args.t.now.left i c.loop-i.t.left c.loop-i.invariant c.index.result.now c.index-in-loop-i.result.now (tree_of v) (tree_of u) m here there (omega (arith, c.in_ok-spend.ensures.charged))
@@ -137,10 +137,10 @@ identical_entries-returns-in_err-identical-clause-charged t c =
     let i = c.loop-i.i in
     let v = c.v-item.result in
     let here : slice_get c.args.x.now i ≡ Some (c.index.result.now, tree_of v) =
-    ap (λ es. slice_get es i) (sym c.x.view_is) ∙ paired_at s.keys.keys s.values.items i c.index.result.now v c.x.invariant c.index.ensures (c.v-item.is ∙ ap (λ vs. get_or vs i v) c.deref-v-items.ensures.value) in
+    ap (λ es. slice_get es i) (sym c.x.view_is) ∙ paired_at s.keys s.values.items i c.index.result.now v c.x.invariant c.index.ensures (c.v-item.is ∙ ap (λ vs. get_or vs i v) c.deref-v-items.ensures.value) in
     let u = c.index-in-loop-i-2.result.now in
     let there : slice_get c.args.y.now i ≡ Some (c.index-in-loop-i.result.now, tree_of u) =
-    ap (λ es. slice_get es i) (sym c.y.view_is) ∙ paired_at r.keys.keys r.values.items i c.index-in-loop-i.result.now u c.y.invariant c.index-in-loop-i.ensures c.index-in-loop-i-2.ensures in
+    ap (λ es. slice_get es i) (sym c.y.view_is) ∙ paired_at r.keys r.values.items i c.index-in-loop-i.result.now u c.y.invariant c.index-in-loop-i.ensures c.index-in-loop-i-2.ensures in
     let m = c.spend.new.self.left in
     let rest : ℕ → Charged _ = λ p. identical_rows (row_of (drop (i + 1) c.args.x.now)) (row_of (drop (i + 1) c.args.y.now)) p in
     let whole = identical_turn c.args.x.now c.args.y.now c.args.t.now.left i c.loop-i.t.left c.loop-i.invariant c.index.result.now c.index-in-loop-i.result.now (tree_of v) (tree_of u) m here there (omega (arith, c.in_ok-spend.ensures.charged))
@@ -155,10 +155,10 @@ identical_entries-returns-then-not-branch-clause-charged t c =
     let i = c.loop-i.i in
     let v = c.v-item.result in
     let here : slice_get c.args.x.now i ≡ Some (c.index.result.now, tree_of v) =
-    ap (λ es. slice_get es i) (sym c.x.view_is) ∙ paired_at s.keys.keys s.values.items i c.index.result.now v c.x.invariant c.index.ensures (c.v-item.is ∙ ap (λ vs. get_or vs i v) c.deref-v-items.ensures.value) in
+    ap (λ es. slice_get es i) (sym c.x.view_is) ∙ paired_at s.keys s.values.items i c.index.result.now v c.x.invariant c.index.ensures (c.v-item.is ∙ ap (λ vs. get_or vs i v) c.deref-v-items.ensures.value) in
     let u = c.index-in-loop-i-2.result.now in
     let there : slice_get c.args.y.now i ≡ Some (c.index-in-loop-i.result.now, tree_of u) =
-    ap (λ es. slice_get es i) (sym c.y.view_is) ∙ paired_at r.keys.keys r.values.items i c.index-in-loop-i.result.now u c.y.invariant c.index-in-loop-i.ensures c.index-in-loop-i-2.ensures in
+    ap (λ es. slice_get es i) (sym c.y.view_is) ∙ paired_at r.keys r.values.items i c.index-in-loop-i.result.now u c.y.invariant c.index-in-loop-i.ensures c.index-in-loop-i-2.ensures in
     let m = c.spend.new.self.left in
     let rest : ℕ → Charged _ = λ p. identical_rows (row_of (drop (i + 1) c.args.x.now)) (row_of (drop (i + 1) c.args.y.now)) p in
     let whole = identical_turn c.args.x.now c.args.y.now c.args.t.now.left i c.loop-i.t.left c.loop-i.invariant c.index.result.now c.index-in-loop-i.result.now (tree_of v) (tree_of u) m here there (omega (arith, c.in_ok-spend.ensures.charged))
@@ -170,7 +170,7 @@ identical_entries-returns-then-not-branch-clause-charged t c =
 pub identical_entries-returns-clause-charged : goal.identical_entries-returns-clause-charged
 identical_entries-returns-clause-charged t c =
     let s = c.x.inside in
-    let past : length c.args.x.now ≤ c.loop-i.i = omega (arith, length-paired s.keys.keys s.values.items c.x.invariant, ap length c.x.view_is, ap length c.deref-v-items.ensures.value, c.loop-i-test.false) in
+    let past : length c.args.x.now ≤ c.loop-i.i = omega (arith, length-paired s.keys s.values.items c.x.invariant, ap length c.x.view_is, ap length c.deref-v-items.ensures.value, c.loop-i-test.false) in
     let whole = identical_end c.args.x.now c.args.y.now c.args.t.now.left c.loop-i.i c.loop-i.t.left c.loop-i.invariant past in
     λ i. (sym whole i).1
 
@@ -181,10 +181,10 @@ identical_entries-loop-i-preserved t c =
     let i = c.loop-i.i in
     let v = c.v-item.result in
     let here : slice_get c.args.x.now i ≡ Some (c.index.result.now, tree_of v) =
-    ap (λ es. slice_get es i) (sym c.x.view_is) ∙ paired_at s.keys.keys s.values.items i c.index.result.now v c.x.invariant c.index.ensures (c.v-item.is ∙ ap (λ vs. get_or vs i v) c.deref-v-items.ensures.value) in
+    ap (λ es. slice_get es i) (sym c.x.view_is) ∙ paired_at s.keys s.values.items i c.index.result.now v c.x.invariant c.index.ensures (c.v-item.is ∙ ap (λ vs. get_or vs i v) c.deref-v-items.ensures.value) in
     let u = c.index-in-loop-i-2.result.now in
     let there : slice_get c.args.y.now i ≡ Some (c.index-in-loop-i.result.now, tree_of u) =
-    ap (λ es. slice_get es i) (sym c.y.view_is) ∙ paired_at r.keys.keys r.values.items i c.index-in-loop-i.result.now u c.y.invariant c.index-in-loop-i.ensures c.index-in-loop-i-2.ensures in
+    ap (λ es. slice_get es i) (sym c.y.view_is) ∙ paired_at r.keys r.values.items i c.index-in-loop-i.result.now u c.y.invariant c.index-in-loop-i.ensures c.index-in-loop-i-2.ensures in
     let m = c.spend.new.self.left in
     let rest : ℕ → Charged _ = λ p. identical_rows (row_of (drop (i + 1) c.args.x.now)) (row_of (drop (i + 1) c.args.y.now)) p in
     let whole = identical_turn c.args.x.now c.args.y.now c.args.t.now.left i c.loop-i.t.left c.loop-i.invariant c.index.result.now c.index-in-loop-i.result.now (tree_of v) (tree_of u) m here there (omega (arith, c.in_ok-spend.ensures.charged))
@@ -197,10 +197,10 @@ pub identical_entries-index-requires-in-loop-i : goal.identical_entries-index-re
 identical_entries-index-requires-in-loop-i t c =
     let s = c.x.inside in
     let r = c.y.inside in
-    omega (arith, length-paired s.keys.keys s.values.items c.x.invariant, ap length c.x.view_is, length-paired r.keys.keys r.values.items c.y.invariant, ap length c.y.view_is, c.y.invariant, c.requires, ap length c.deref-v-items.ensures.value, c.loop-i-test.true)
+    omega (arith, length-paired s.keys s.values.items c.x.invariant, ap length c.x.view_is, length-paired r.keys r.values.items c.y.invariant, ap length c.y.view_is, c.y.invariant, c.requires, ap length c.deref-v-items.ensures.value, c.loop-i-test.true)
 
 pub identical_entries-index-requires-in-loop-i-2 : goal.identical_entries-index-requires-in-loop-i-2
 identical_entries-index-requires-in-loop-i-2 t c =
     let s = c.x.inside in
     let r = c.y.inside in
-    omega (arith, length-paired s.keys.keys s.values.items c.x.invariant, ap length c.x.view_is, length-paired r.keys.keys r.values.items c.y.invariant, ap length c.y.view_is, c.y.invariant, c.requires, ap length c.deref-v-items.ensures.value, c.loop-i-test.true)
+    omega (arith, length-paired s.keys s.values.items c.x.invariant, ap length c.x.view_is, length-paired r.keys r.values.items c.y.invariant, ap length c.y.view_is, c.y.invariant, c.requires, ap length c.deref-v-items.ensures.value, c.loop-i-test.true)

@@ -1,5 +1,5 @@
 use Rattle.std.proofs.Common.{sym, ap}
-use Rattle.resin_eval_merges.proofs.meaning_lemmas.Composition.{does_next, does_exit, does_loosely}
+use Rattle.resin_eval_merges.proofs.meaning_lemmas.Composition.{does_next, does_exit}
 use Rattle.resin_eval_merges.proofs.eval_nested_lemmas.Exits.{does_is}
 use Rattle.resin_eval_merges.specs.Under.meaning_forms.Programs.{evals}
 use Rattle.resin_eval_merges.specs.Under.meaning_forms.Targets.{steps}
@@ -13,14 +13,6 @@ pub returns-in_err-y : goal.returns-in_err-y
 returns-in_err-y g c =
     does_next _ _ (does_is (ap (steps (evals c.args.self.now.by.now.room)) (sym c.as_slice.ensures)) c.in_ok-path.ensures) (does_exit _ _ _ c.from_residual-in_err-y.ensures.1 (c.in_err-y.ensures.does))
 
-pub returns-in_err-x : goal.returns-in_err-x
-returns-in_err-x g c =
-    does_next _ _ (does_is (ap (steps (evals c.args.self.now.by.now.room)) (sym c.as_slice.ensures)) c.in_ok-path.ensures) (does_next _ _ (c.in_ok-y.ensures.does) (does_exit _ _ _ c.from_residual-in_err-x.ensures.1 (does_loosely _ _ _ _ c.in_err-x.ensures.acts)))
-
-pub returns-in_err-v : goal.returns-in_err-v
-returns-in_err-v g c =
-    does_next _ _ (does_is (ap (steps (evals c.args.self.now.by.now.room)) (sym c.as_slice.ensures)) c.in_ok-path.ensures) (does_next _ _ (c.in_ok-y.ensures.does) (does_next _ _ (does_loosely _ _ _ _ c.in_ok-x.ensures.acts) (does_exit _ _ _ c.from_residual-in_err-v.ensures.1 (c.in_err-v.ensures))))
-
 pub returns : goal.returns
 returns g c =
-    does_next _ _ (does_is (ap (steps (evals c.args.self.now.by.now.room)) (sym c.as_slice.ensures)) c.in_ok-path.ensures) (does_next _ _ (c.in_ok-y.ensures.does) (does_next _ _ (does_loosely _ _ _ _ c.in_ok-x.ensures.acts) (does_next _ _ (c.in_ok-v.ensures) (c.stored_value.ensures _ _ _))))
+    does_next _ _ (does_is (ap (steps (evals c.args.self.now.by.now.room)) (sym c.as_slice.ensures)) c.in_ok-path.ensures) (does_next _ _ (c.in_ok-y.ensures.does) (c.combine.ensures))

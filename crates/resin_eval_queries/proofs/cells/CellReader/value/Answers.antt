@@ -29,4 +29,4 @@ returns-in_ok-first_set-in-Int g c =
 
 pub returns-in_default : goal.returns-in_default
 returns-in_default g c =
-    does_is (read_as_text (evals c.args.self.now.by.now.room) c.args.column.now c.args.value.now c.args.text c.in_default.not-Int) c.text-in_default.ensures
+    does_is (read_as_text (evals c.args.self.now.by.now.room) c.args.column.now c.args.value.now c.args.text c.in_default.not-Int) c.text.ensures

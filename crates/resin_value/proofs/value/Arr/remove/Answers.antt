@@ -18,4 +18,10 @@ pub invariant_of-self-2 : goal.invariant_of-self-2
 invariant_of-self-2 c =
     let own : c.in_ok-body.body.now ≡ c.self.inside.body.value = ⊎_elim (λ e. e) (λ e. e) c.in_ok-body.ensures.value in
     let written = c.make_mut.follows.holds c.remove.new.self (ap is_ok c.in_ok-body.was) in
-    subst (λ (a : Array). IsArray a) (sym (ap seen written ∙ c.remove.ensures ∙ ap (λ b. without c.args.k.now (seen b)) own)) (IsArray-without c.args.k.now (seen c.self.inside.body.value) c.self.invariant)
+    subst (λ (a : Array). IsArray a) (sym (ap seen written ∙ c.in_ok-remove.ensures.ok ∙ ap (λ b. without c.args.k.now (seen b)) own)) (IsArray-without c.args.k.now (seen c.self.inside.body.value) c.self.invariant)
+
+pub invariant_of-self-in_err-remove : goal.invariant_of-self-in_err-remove
+invariant_of-self-in_err-remove c =
+    let own : c.in_ok-body.body.now ≡ c.self.inside.body.value = ⊎_elim (λ e. e) (λ e. e) c.in_ok-body.ensures.value in
+    let written = c.make_mut.follows.holds c.remove.new.self (ap is_ok c.in_ok-body.was) in
+    subst (λ (a : Array). IsArray a) (sym (ap seen written ∙ c.in_err-remove.ensures.err ∙ ap seen own)) c.self.invariant

@@ -1,0 +1,2 @@
+<?php
+function labelled($text) { return $text; }
