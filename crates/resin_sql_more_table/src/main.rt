@@ -89,7 +89,7 @@ fn push_statement(
     match read_more(alloc, &text) {
         Ok(MoreStmt::Join(join)) => push_join(alloc, out, &text, &join, shelf)?,
         Ok(MoreStmt::Total(total)) => push_total(alloc, out, &text, &total, shelf)?,
-        Ok(MoreStmt::Plain(_)) => out.push_str("plain"),
+        Ok(MoreStmt::Plain(_plain)) => out.push_str("plain"),
         Err(SqlFault::Bad { offset }) => out.tell("syntax at ", offset, ""),
         Err(SqlFault::Memory) => return Err(AllocError),
     }
