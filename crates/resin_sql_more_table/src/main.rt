@@ -99,11 +99,11 @@ fn push_statement(
 fn run(alloc: Global, line: &str) -> Result<String, AllocError> {
     let mut out = Line::new(alloc);
     let mut shelf = Shelf::set(alloc, line)?;
-    let mut mark = "";
+    let mut is_first = true;
     for field in line.split('|') {
         if !Shelf::is_setting(field) {
-            out.push_str(mark);
-            mark = " | ";
+            out.push_str(if is_first { "" } else { " | " });
+            is_first = false;
             push_statement(alloc, &mut out, field, &mut shelf)?;
         }
     }
