@@ -3,6 +3,7 @@
 
 pub mod invoke;
 mod keepers;
+mod leaves;
 pub mod nested;
 pub mod run;
 pub mod under;

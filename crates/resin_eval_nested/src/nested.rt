@@ -9,6 +9,7 @@ ghost use Rattle.resin_step_objects.specs.Under.lstr.declared.limits.TheConstant
 ghost use Rattle.resin_step_objects.specs.Under.meaning_forms.Sources.{source};
 ghost use Rattle.std.specs.Prelude.{OnOk, ◌<◌, ◌≤◌, length};
 
+use crate::leaves::{literal, variable};
 use crate::run::Run;
 use resin_step_objects::under::base::{Files, Tables};
 use resin_step_objects::under::machine::Stop;
@@ -57,6 +58,19 @@ impl<
 > Evaluator<F, T, N> {
     /// The value of an expression.
     pub fn expr(&self, run: &mut Run<F, T>, e: &Expr) -> Result<Value, Stop>
+        requires { Nests F.Files T.Tables N.pre N.post self.now }
+        ensures does { Performs F.Files T.Tables ((means self.now).expr e.now) run.old result run.new }
+        ensures spent { OnOk result (run.new.machine.ticks < run.old.machine.ticks) }
+    {
+        match e {
+            Expr::Literal(l) => literal(self.alloc, self.room, &mut run.machine, l),
+            Expr::Variable(x) => variable(self.room, &mut run.machine, x.as_slice()),
+            _ => self.branch(run, e),
+        }
+    }
+
+    // The value of an expression, by the function value.
+    fn branch(&self, run: &mut Run<F, T>, e: &Expr) -> Result<Value, Stop>
         requires { Nests F.Files T.Tables N.pre N.post self.now }
         ensures does { Performs F.Files T.Tables ((means self.now).expr e.now) run.old result run.new }
         ensures spent { OnOk result (run.new.machine.ticks < run.old.machine.ticks) }

@@ -2,3 +2,4 @@
 pub use Rattle.resin_eval_nested.proofs.Arguments
 pub use Rattle.resin_eval_nested.proofs.Arms
 pub use Rattle.resin_eval_nested.proofs.Exits
+pub use Rattle.resin_eval_nested.proofs.Leaf_means

@@ -35,9 +35,7 @@ use Rattle.resin_eval_calls.specs.Under.eval_nested.declared.nested.Nested.{Nest
 use Rattle.resin_eval_calls.specs.Under.eval_nested.declared.nested.Nested.TheVariants.{Value as ForValue, Asked, Statement, Source}
 use Rattle.resin_eval_calls.specs.Under.eval_nested.declared.nested.Outcome.{Outcome}
 use Rattle.resin_eval_calls.proofs.eval_nested_lemmas.Arms.{does_faulted}
-
-shut_expr : (room : ℕ) (e : Expr) (m : State) {f : Seen LabelledFiles} {t : Seen TableStore} {c : Calls} {s : Stop} → room ≡ 0 → s ≡ Fault DepthSpent m.line → Does ((evals room).expr e) (world m f t c) (Err s) (world m f t c)
-shut_expr room e m h k = rw h (unfold evals in does_faulted DepthSpent m k)
+use Rattle.resin_eval_calls.proofs.eval_nested_lemmas.Leaf_means.{shut_expr}
 
 shut_soft : (room : ℕ) (e : Expr) (m : State) {f : Seen LabelledFiles} {t : Seen TableStore} {c : Calls} {s : Stop} → room ≡ 0 → s ≡ Fault DepthSpent m.line → Does ((evals room).soft e) (world m f t c) (Err s) (world m f t c)
 shut_soft room e m h k = rw h (unfold evals in does_faulted DepthSpent m k)
@@ -83,11 +81,6 @@ unfolding rank
 statement_rank s = refl
 
 -- one more may be open
-pub open_expr : (room : ℕ) (e : Expr) {u v : World} {r : Result Value Stop} → room ≢ 0 → Does ((evals (suc (room - 1))).expr e) u r v → Does ((evals room).expr e) u r v
-open_expr room e {u = u} {v = v} {r = r} ne d =
-    let h : room ≡ suc (room - 1) = omega arith in
-    subst (λ (n : ℕ). Does ((evals n).expr e) u r v) (sym h) d
-
 pub open_soft : (room : ℕ) (e : Expr) {u v : World} {r : Result Value Stop} → room ≢ 0 → Does ((evals (suc (room - 1))).soft e) u r v → Does ((evals room).soft e) u r v
 open_soft room e {u = u} {v = v} {r = r} ne d =
     let h : room ≡ suc (room - 1) = omega arith in
@@ -99,9 +92,6 @@ open_stmt room s {u = u} {v = v} {r = r} ne d =
     subst (λ (n : ℕ). Does ((evals n).stmt s) u r v) (sym h) d
 
 -- what each means: a tick, and then its form
-pub ticked_expr : (room : ℕ) (e : Expr) {u v : World} {r : Result Value Stop} → Does (act (charge 1) >> expr_form (evals room) e) u r v → Does ((evals (suc room)).expr e) u r v
-ticked_expr room e d = unfold evals in d
-
 pub ticked_soft : (room : ℕ) (e : Expr) {u v : World} {r : Result Value Stop} → Does (act (charge 1) >> soft_form (evals room) e) u r v → Does ((evals (suc room)).soft e) u r v
 ticked_soft room e d = unfold evals in d
 

@@ -46,12 +46,6 @@ use Rattle.resin_eval_calls.specs.Under.meaning_forms.Calls.{call_form}
 use Rattle.resin_eval_calls.specs.Under.meaning_forms.Expressions.{array_form, interpolated, access_form, soft_access_form, soft_form, operation_form, holds, all_set, test_form, expr_form}
 use Rattle.resin_eval_calls.specs.Under.meaning_forms.Statements.{while_loop, for_loop, turn, run_all, foreach, loop_form, simple_form, branches, switch, try_form, stmt_form}
 
-pub literal_means : (ev : Evals) (z : Expr) (l : Literal) → z ≡ expr.Literal l → expr_form ev z ≡ (give (value_of (literal_of l)))
-literal_means ev z l h = rw (h, expr.outs-Literal l, expr_form) refl
-
-pub variable_means : (ev : Evals) (z : Expr) (x : List ℕ) → z ≡ expr.Variable x → expr_form ev z ≡ (act (read x))
-variable_means ev z x h = rw (h, expr.outs-Variable x, expr_form) refl
-
 pub array_means : (ev : Evals) (z : Expr) (is : List ArrayItem) → z ≡ expr.Array is → expr_form ev z ≡ (array_form ev is)
 array_means ev z is h = rw (h, expr.outs-Array is, expr_form) refl
 

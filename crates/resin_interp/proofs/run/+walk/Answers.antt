@@ -1,11 +1,12 @@
 use Rattle.std.proofs.Common.{ap, drop, ◌+◌, arith}
 use Rattle.resin_eval_calls.proofs.meaning_lemmas.Composition.{does_exit, does_give, does_next, does_stop, front, leads_here, nothing_left}
 use Rattle.resin_eval_calls.proofs.eval_nested_lemmas.Exits.{does_is}
+use Rattle.resin_eval_calls.proofs.eval_nested_lemmas.Leaf_means.{open_expr}
 use Rattle.resin_eval_calls.specs.Under.meaning_forms.Invoke.{block}
 use Rattle.resin_eval_calls.specs.Under.meaning_forms.Programs.{evals}
 use Rattle.resin_eval_calls.specs.Under.meaning_forms.Sources.{source}
 use Rattle.resin_interp.proofs.Counts.{no_statement}
-use Rattle.resin_interp.proofs.Rooms.{source_rank, statement_rank, shut, source_stopped, open_expr, open_soft, open_stmt, value_stopped, asked_stopped, statement_stopped}
+use Rattle.resin_interp.proofs.Rooms.{source_rank, statement_rank, shut, source_stopped, open_soft, open_stmt, value_stopped, asked_stopped, statement_stopped}
 use Rattle.resin_interp.proofs.run.+walk.Goals as goal
 use Rattle.resin_interp.proofs.run.+walk.Goals.{run_items-in-Statement+in_ok-run_statement+in-Next, run_items-in_default}
 

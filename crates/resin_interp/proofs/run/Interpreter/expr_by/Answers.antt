@@ -1,7 +1,7 @@
 use Rattle.resin_eval_calls.proofs.meaning_lemmas.Composition.{does_next, does_exit, does_act}
 use Rattle.resin_eval_calls.specs.Under.meaning.Runs.{done}
 use Rattle.resin_interp.proofs.Arms.{spent_after}
-use Rattle.resin_interp.proofs.Rooms.{ticked_expr}
+use Rattle.resin_eval_calls.proofs.eval_nested_lemmas.Leaf_means.{ticked_expr}
 use Rattle.resin_interp.proofs.run.Interpreter.expr_by.Goals as goal
 
 pub returns-in_err-charge-clause-does : goal.returns-in_err-charge-clause-does

@@ -2,7 +2,8 @@ use Rattle.std.proofs.Common.{sym, ap}
 use Rattle.resin_eval_calls.proofs.meaning_lemmas.Composition.{does_act}
 use Rattle.resin_eval_calls.proofs.eval_nested_lemmas.Arms.{does_given, does_none}
 use Rattle.resin_eval_calls.proofs.eval_nested_lemmas.Exits.{does_is}
-use Rattle.resin_interp.proofs.Shapes.{literal_means, variable_means, array_means, join_means, access_means, operation_means, test_means, assignment_means, call_means}
+use Rattle.resin_eval_calls.proofs.eval_nested_lemmas.Leaf_means.{literal_means, variable_means}
+use Rattle.resin_interp.proofs.Shapes.{array_means, join_means, access_means, operation_means, test_means, assignment_means, call_means}
 use Rattle.resin_eval_calls.specs.Under.meaning_forms.Programs.{evals}
 use Rattle.resin_eval_calls.specs.Under.meaning_forms.Expressions.{array_form, interpolated}
 use Rattle.resin_interp.proofs.run.Interpreter.expression.Goals as goal
