@@ -1,1 +1,4 @@
+pub mod Asked
+pub mod OwnMerge
+pub mod Unions
 pub mod Under

@@ -2,4 +2,6 @@
 #![tactic(auto)]
 
 pub mod merges;
+mod own_merge;
 pub mod under;
+mod unions;

@@ -5,8 +5,11 @@ ghost use Rattle.resin_eval_nested.specs.Nested.{Nests, means};
 ghost use Rattle.resin_eval_nested.specs.Running.{Performs};
 ghost use Rattle.resin_eval_nested.specs.Under.label.Sets.{numbers};
 ghost use Rattle.resin_eval_nested.specs.Under.value.Seen.{tree_of};
+ghost use Rattle.resin_eval_merges.specs.Asked.{each_asked};
 ghost use Rattle.std.specs.Prelude.{◌&&◌, ◌≡◌};
 
+use crate::own_merge::answer_themselves;
+use crate::unions::union_of;
 use resin_eval_nested::nested::{Evaluator, Nested, Outcome};
 use resin_eval_nested::run::Run;
 use resin_eval_nested::under::base::{Files, Tables};
@@ -69,6 +72,17 @@ impl<
         Ok(out)
     }
 
+    // What two values carry together where one of them carries a policy: each policy is asked.
+    fn asked(&self, run: &mut Run<F, T>, a: &PSet, b: &PSet) -> Result<PSet, Stop>
+        requires { Nests F.Files T.Tables N.pre N.post self.now.by.now }
+        ensures { Performs F.Files T.Tables (each_asked (means self.now.by.now) (numbers a.now) (numbers b.now)) run.old result run.new }
+    {
+        let left = a.as_slice();
+        let right = b.as_slice();
+        let first = self.ask_merges(run, right, left, PSet::empty())?;
+        self.ask_merges(run, left, right, first)
+    }
+
     /// What a value carries that is computed from two: nothing where neither carries a policy, and else what each policy of the first answers about those of
     /// the second, and then each of the second about those of the first. BadOperand comes where one answers anything but an array of policies; what a merge
     /// of a script ends with, as an exception, goes on.
@@ -79,10 +93,11 @@ impl<
         if are_empty(a, b) {
             return Ok(PSet::empty());
         }
-        let left = a.as_slice();
-        let right = b.as_slice();
-        let first = self.ask_merges(run, right, left, PSet::empty())?;
-        self.ask_merges(run, left, right, first)
+        let both = a.union(self.by.alloc, b)?;
+        if answer_themselves(&run.machine, both.as_slice()) {
+            return Ok(both);
+        }
+        self.asked(run, a, b)
     }
 
     // A set and those behind it as one, from the left.
@@ -97,8 +112,8 @@ impl<
         Ok(both)
     }
 
-    /// Sets as one, merged from the left; where there is none, nothing. A single set stays as it is, and no policy is asked. It stops as `merge` does.
-    pub fn fold_sets(&self, run: &mut Run<F, T>, sets: &[PSet]) -> Result<PSet, Stop>
+    // Sets as one, merged from the left, one after the other.
+    fn fold_asked(&self, run: &mut Run<F, T>, sets: &[PSet]) -> Result<PSet, Stop>
         requires { Nests F.Files T.Tables N.pre N.post self.now.by.now }
         ensures { Performs F.Files T.Tables (fold_sets (means self.now.by.now) sets.now) run.old result run.new }
     {
@@ -107,6 +122,21 @@ impl<
         };
         let first = first.clone()?;
         self.fold_on(run, first, rest)
+    }
+
+    /// Sets as one, merged from the left; where there is none, nothing. A single set stays as it is, and no policy is asked. It stops as `merge` does.
+    pub fn fold_sets(&self, run: &mut Run<F, T>, sets: &[PSet]) -> Result<PSet, Stop>
+        requires { Nests F.Files T.Tables N.pre N.post self.now.by.now }
+        ensures { Performs F.Files T.Tables (fold_sets (means self.now.by.now) sets.now) run.old result run.new }
+    {
+        if sets.len() < 2 {
+            return self.fold_asked(run, sets);
+        }
+        let all = union_of(self.by.alloc, sets)?;
+        if answer_themselves(&run.machine, all.as_slice()) {
+            return Ok(all);
+        }
+        self.fold_asked(run, sets)
     }
 
     /// What a text carries that is read as one value: its distinct sets as one, merged from the left in the order in which they first stand in it. A single

@@ -1,21 +1,12 @@
-use Rattle.resin_eval_nested.specs.Under.meaning_forms.Merges.{fold_sets}
 use Rattle.resin_eval_nested.specs.Under.meaning_forms.Programs.{evals}
-use Rattle.resin_eval_nested.proofs.Arms.{does_given}
-use Rattle.resin_eval_nested.proofs.Arguments.{empty_list, opened_rest}
-use Rattle.resin_eval_nested.proofs.Exits.{does_is}
 use Rattle.resin_eval_merges.proofs.Exits.{does_unfolded}
-use Rattle.resin_eval_nested.specs.Under.label.Sets.{NumberSet}
-use Rattle.std.proofs.Common.{List, ap}
+use Rattle.resin_eval_merges.proofs.Unasked.{does_fold}
 use Rattle.resin_eval_merges.proofs.merges.Merger.fold_sets.Goals as goal
 
-pub returns-in_default : goal.returns-in_default
-returns-in_default g c =
-    does_is (ap (λ (xs : List NumberSet). fold_sets (evals c.args.self.now.by.now.room) xs) (empty_list _ c.in_default.len_below)) (does_given _ _ c.empty.ensures)
-
-pub returns-in_err-first : goal.returns-in_err-first
-returns-in_err-first g c =
+pub returns-in_err-all : goal.returns-in_err-all
+returns-in_err-all g c =
     does_unfolded (evals c.args.self.now.by.now.room) _ _ c.from_residual.ensures.1
 
-pub returns : goal.returns
-returns g c =
-    does_is (ap (λ (xs : List NumberSet). fold_sets (evals c.args.self.now.by.now.room) xs) (opened_rest _ _ c.in-len1-up.len_at_least c.first-item.is)) (rw c.in_ok-first.ensures.cases at c.fold_on.ensures)
+pub returns-then-answer_themselves : goal.returns-then-answer_themselves
+returns-then-answer_themselves g c =
+    does_fold (evals c.args.self.now.by.now.room) c.args.sets.now _ _ _ c.in_ok-all.ensures c.as_slice.ensures.members (c.answer_themselves.ensures c.if-answer_themselves.true)
