@@ -32,8 +32,14 @@ header_line h = h.name ++ codes ": " ++ h.value ++ line_end
 abbrev pub length_line : ℕ → List ℕ
 length_line n = codes "Content-Length: " ++ decimal n ++ line_end
 
--- the status, the type where no header tells it, the headers in order, the body's length, an empty line, and the body unless only the head is wanted
+-- what stands before the body: the status, the type where no header tells it, the headers in order, the body's length and an empty line
+unfoldable pub response_head : ℕ → List Header → List ℕ → ℕ → List ℕ
+response_head status headers kind length = status_line status ++ type_line headers kind ++ flat_map header_line headers ++ length_line length ++ line_end
+
+-- the body, unless only the head is wanted
+abbrev pub shown_body : Bool → List ℕ → List ℕ
+shown_body head_only body = if head_only then [] else body
+
+-- the head, with the length of the body, and the body unless only the head is wanted
 unfoldable pub response : ℕ → List Header → List ℕ → List ℕ → Bool → List ℕ
-response status headers kind body head_only =
-    status_line status ++ type_line headers kind ++ flat_map header_line headers ++ length_line (length body) ++ line_end
-    ++ (if head_only then [] else body)
+response status headers kind body head_only = response_head status headers kind (length body) ++ shown_body head_only body

@@ -3,7 +3,7 @@
 //! `next_request` says what the front of a stream asks: a request, a refusal, or more bytes (`specs/Stream.antt`, over the grammar of heads in
 //! `specs/Head.antt` and of fields in `specs/Fields.antt`). The answers of a stream do not depend on how it is cut (`answers_grow`), and a `Mark`
 //! keeps how far it was read (`specs/Marks.antt`). `inputs` has what scripts see (`specs/Inputs.antt`), `response_text` what goes out
-//! (`specs/Response.antt`).
+//! (`specs/Response.antt`), and `response_head` what of it stands before the body.
 //!
 //! ```rust
 //! match next_request(alloc, stream)? {
@@ -31,5 +31,5 @@ pub use marks::Mark;
 pub use request::{Method, Request, Step};
 pub use resin_inputs::InputArrays;
 pub use resin_inputs::under::bytes::{Header, HeaderList};
-pub use response::response_text;
+pub use response::{response_head, response_text};
 pub use stream::{next_marked, next_request};

@@ -2,7 +2,7 @@
 ghost use Rattle.std.specs.Prelude.{◌≡◌, [], ◌++◌, IfOk, OnOk, unwrap_or};
 ghost use Rattle.http.specs.StatusCode.{reason_phrase};
 ghost use Rattle.std.specs.List.{flat_map};
-ghost use Rattle.resin_http.specs.Response.{response, phrase_of, status_line, type_line, kind_line, has_type, header_line, length_line};
+ghost use Rattle.resin_http.specs.Response.{response, response_head, phrase_of, status_line, type_line, kind_line, has_type, header_line, length_line};
 
 use http::StatusCode;
 use itoa::Buffer;
@@ -10,8 +10,28 @@ use resin_inputs::is_named;
 use resin_inputs::under::bytes::{Bytes, Header, HeaderList};
 use std::alloc::{AllocError, Global};
 
-/// The text of a response: the status line with `http`'s canonical phrase, `Content-Type: kind` where no header tells the type, the
-/// headers in order, `Content-Length` with the length of the body, an empty line, and the body unless only the head is wanted.
+/// What stands before the body of a response: the status line with `http`'s canonical phrase, `Content-Type: kind` where no header tells the
+/// type, the headers in order, `Content-Length` with the length of the body, and an empty line.
+#[tactic(auto, unfolding(crate::specs::Response::response_head))]
+pub fn response_head(
+    alloc: Global,
+    status: u16,
+    headers: &HeaderList,
+    kind: &[u8],
+    length: usize,
+) -> Result<Bytes, AllocError>
+    ensures { IfOk result (λ text. text ≡ response_head status headers.now kind.now length) }
+{
+    let mut text = Bytes::new(alloc);
+    push_status(&mut text, status)?;
+    push_type(&mut text, headers.as_slice(), kind)?;
+    push_headers(&mut text, headers.as_slice())?;
+    push_length(&mut text, length)?;
+    text.push_slice(b"\r\n")?;
+    Ok(text)
+}
+
+/// The text of a response: its head, as [`response_head`] has it, and the body unless only the head is wanted.
 #[tactic(auto, unfolding(crate::specs::Response::response))]
 pub fn response_text(
     alloc: Global,
@@ -23,12 +43,7 @@ pub fn response_text(
 ) -> Result<Bytes, AllocError>
     ensures { IfOk result (λ text. text ≡ response status headers.now kind.now body.now head_only) }
 {
-    let mut text = Bytes::new(alloc);
-    push_status(&mut text, status)?;
-    push_type(&mut text, headers.as_slice(), kind)?;
-    push_headers(&mut text, headers.as_slice())?;
-    push_length(&mut text, body.len())?;
-    text.push_slice(b"\r\n")?;
+    let mut text = response_head(alloc, status, headers, kind, body.len())?;
     if !head_only {
         text.push_slice(body)?;
     }

@@ -11,12 +11,12 @@ use crate::puts::{plain, put};
 use resin_value::{Arr, Key, Value};
 use std::alloc::{AllocError, Global};
 
-/// The array of the pairs of a form.
+/// The array of the pairs of a form. A value without escapes is copied once, into its text.
 pub(crate) fn form_array(alloc: Global, form: &[u8]) -> Result<Arr, AllocError>
     ensures { IfOk result (λ array. array ≡ form_array form.now) }
 {
     let mut array = Arr::new(alloc)?;
-    for pair in form_urlencoded::parse(alloc, form).into_owned() {
+    for pair in form_urlencoded::parse(alloc, form) {
         let (name, value) = pair?;
         put_pair(alloc, &mut array, name.as_bytes(), value.as_bytes())?;
     }

@@ -22,6 +22,7 @@ use resin_interp::under::base::{Calls, Entry, Files, Tables};
 use resin_interp::under::journal::Channel;
 use resin_interp::{Machine, Run, Stop, perform, thaw_entry};
 use std::alloc::Global;
+use std::mem;
 
 /// How the steps of a request come to their end.
 #[derive(Clone, Copy, Debug, Eq, PartialEq)]
@@ -107,16 +108,17 @@ fn run_script<F: Files, T: Tables>(
     run_source(alloc, run, scripts, &src)
 }
 
-// A file that is no script passes the filters of files, and goes out as one write.
+// A file that is no script passes the filters of files, and goes out as one write. It is let go once its text is made.
 fn send_file<F: Files, T: Tables>(
     alloc: Global,
     run: &mut Run<F, T>,
     path: &[u8],
-    e: &Entry,
+    e: Entry,
 ) -> Result<(), Stop>
-    ensures { Performs F.Files T.Tables (send_file path.now (lift e.now)) run.old result run.new }
+    ensures { Performs F.Files T.Tables (send_file path.now (lift e)) run.old result run.new }
 {
-    let text = thaw_entry(alloc, &mut run.machine, e)?;
+    let text = thaw_entry(alloc, &mut run.machine, &e)?;
+    mem::drop(e);
     let read = filter_read(alloc, run, Channel::File, path, &text)?;
     write_page(alloc, run, &read)
 }
@@ -127,12 +129,12 @@ fn serve_file<F: Files, T: Tables>(
     run: &mut Run<F, T>,
     scripts: &mut Scripts,
     path: &[u8],
-    e: &Entry,
+    e: Entry,
 ) -> Result<(), Stop>
-    ensures { Performs F.Files T.Tables (serve_file path.now (lift e.now)) run.old result run.new }
+    ensures { Performs F.Files T.Tables (serve_file path.now (lift e)) run.old result run.new }
 {
     if is_script(path) {
-        run_script(alloc, run, scripts, path, e)
+        run_script(alloc, run, scripts, path, &e)
     } else {
         send_file(alloc, run, path, e)
     }
@@ -144,9 +146,9 @@ fn serve_and_end<F: Files, T: Tables>(
     run: &mut Run<F, T>,
     scripts: &mut Scripts,
     path: &[u8],
-    e: &Entry,
+    e: Entry,
 ) -> Result<(), Stop>
-    ensures { Performs F.Files T.Tables (serve_and_end path.now (lift e.now)) run.old result run.new }
+    ensures { Performs F.Files T.Tables (serve_and_end path.now (lift e)) run.old result run.new }
 {
     serve_file(alloc, run, scripts, path, e)?;
     end_buffers(alloc, run)
@@ -159,9 +161,9 @@ fn serve_named<F: Files, T: Tables>(
     scripts: &mut Scripts,
     name: &[u8],
     path: &[u8],
-    e: &Entry,
+    e: Entry,
 ) -> Result<(), Stop>
-    ensures { Performs F.Files T.Tables (in_session (Some name.now) (serve_and_end path.now (lift e.now))) run.old result run.new }
+    ensures { Performs F.Files T.Tables (in_session (Some name.now) (serve_and_end path.now (lift e))) run.old result run.new }
 {
     let found = begin_session(alloc, run, name)?;
     serve_and_end(alloc, run, scripts, path, e)?;
@@ -175,9 +177,9 @@ fn serve_in_session<F: Files, T: Tables>(
     scripts: &mut Scripts,
     session: Option<&[u8]>,
     path: &[u8],
-    e: &Entry,
+    e: Entry,
 ) -> Result<(), Stop>
-    ensures { Performs F.Files T.Tables (in_session (option_map (λ n. n.now) session.entry) (serve_and_end path.now (lift e.now))) run.old result run.new }
+    ensures { Performs F.Files T.Tables (in_session (option_map (λ n. n.now) session.entry) (serve_and_end path.now (lift e))) run.old result run.new }
 {
     match session {
         Some(name) => serve_named(alloc, run, scripts, name, path, e),
@@ -192,9 +194,9 @@ fn serve_for<F: Files, T: Tables>(
     scripts: &mut Scripts,
     path: &[u8],
     inputs: &InputArrays,
-    e: &Entry,
+    e: Entry,
 ) -> Result<(), Stop>
-    ensures { Performs F.Files T.Tables (in_session (session_of inputs.now) (serve_and_end path.now (lift e.now))) run.old result run.new }
+    ensures { Performs F.Files T.Tables (in_session (session_of inputs.now) (serve_and_end path.now (lift e))) run.old result run.new }
 {
     let session = session_of(alloc, inputs)?;
     serve_in_session(alloc, run, scripts, session, path, e)
@@ -207,9 +209,9 @@ fn serve_entry<F: Files, T: Tables>(
     scripts: &mut Scripts,
     path: &[u8],
     inputs: &InputArrays,
-    e: &Entry,
+    e: Entry,
 ) -> Result<Finish, Stop>
-    ensures { Performs F.Files T.Tables (serve_found path.now inputs.now (Some (lift e.now))) run.old result run.new }
+    ensures { Performs F.Files T.Tables (serve_found path.now inputs.now (Some (lift e))) run.old result run.new }
 {
     run_boot(alloc, run, scripts)?;
     put_inputs(alloc, run, inputs)?;
@@ -233,7 +235,7 @@ fn perform_request<F: Files, T: Tables>(
     let found = run.read_file(path)?;
     match found {
         None => Ok(Finish::Missing),
-        Some(e) => serve_entry(alloc, run, scripts, path, &inputs, &e),
+        Some(e) => serve_entry(alloc, run, scripts, path, &inputs, e),
     }
 }
 

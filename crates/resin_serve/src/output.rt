@@ -6,18 +6,30 @@ use itoa::Buffer;
 use resin_site::under::base::Bytes;
 use std::alloc::{AllocError, Global};
 
-/// The record of a response: `<conn> <len>`, a newline, the response and a newline.
+/// The most bytes of a record beside its response: a connection, a blank, a length and two newlines.
+const MOST_BESIDE: usize = 28;
+
+/// The record of a response that has this head and this body: `<conn> <len>`, a newline, the response and a newline. It is made in one piece of
+/// memory, which it doesn't outgrow.
 #[tactic(auto, unfolding(crate::specs::Records::record_text))]
-pub(crate) fn output_record(alloc: Global, conn: u16, response: &[u8]) -> Result<Bytes, AllocError>
-    ensures { IfOk result (λ text. text ≡ record_text conn response.now) }
+pub(crate) fn output_record(
+    alloc: Global,
+    conn: u16,
+    head: &[u8],
+    body: &[u8],
+) -> Result<Vec<u8>, AllocError>
+    ensures { IfOk result (λ text. text.items ≡ record_text conn (head.now ++ body.now)) }
 {
+    let length = head.len() + body.len();
     let mut buffer = Buffer::new();
-    let mut text = Bytes::from_slice(alloc, buffer.format(conn).as_bytes())?;
-    text.push_slice(b" ")?;
-    text.push_slice(buffer.format(response.len()).as_bytes())?;
-    text.push_slice(b"\n")?;
-    text.push_slice(response)?;
-    text.push_slice(b"\n")?;
+    let mut text = Vec::with_capacity(alloc, length.saturating_add(MOST_BESIDE))?;
+    text.extend_from_slice(buffer.format(conn).as_bytes())?;
+    text.extend_from_slice(b" ")?;
+    text.extend_from_slice(buffer.format(length).as_bytes())?;
+    text.extend_from_slice(b"\n")?;
+    text.extend_from_slice(head)?;
+    text.extend_from_slice(body)?;
+    text.extend_from_slice(b"\n")?;
     Ok(text)
 }
 

@@ -1,5 +1,5 @@
 //! Serves the records of a trace.
-ghost use Rattle.std.specs.Prelude.{◌≡◌, ◌≢◌, ◌+◌, ◌∷◌, [], ℕ, List, Option, IsSome};
+ghost use Rattle.std.specs.Prelude.{◌≡◌, ◌≢◌, ◌+◌, ◌++◌, ◌∷◌, [], ℕ, List, Option, IsSome};
 ghost use Rattle.resin_site.specs.Under.http.Stream.{asks, refuses};
 ghost use Rattle.resin_trace.specs.declared.event.TraceEvent.{TraceEvent};
 ghost use Rattle.resin_trace.specs.Lines.{at};
@@ -23,7 +23,7 @@ use crate::waiting::WaitingStreams;
 use resin_site::under::base::{Calls, Files, Sink, Tables};
 use resin_site::under::http::{Request, Step};
 use resin_site::under::journal::Journal;
-use resin_site::{Outcome, Site, refusal, serve_one};
+use resin_site::{Answer, Site, answer_one, refusal};
 use resin_trace::{TraceEvent, TraceFault, TraceReader};
 use std::alloc::Global;
 
@@ -44,7 +44,7 @@ pub(crate) struct Run {
     pub(crate) connections: WaitingStreams,
 }
 
-/// Gives an answer: what it puts into the log, then its mail records, then the record of its response.
+/// Gives an answer: what it puts into the log, then its mail records, then the record of its response, which has this head and this body.
 pub(crate) fn give_answer<L: Sink, M: Sink, O: Sink>(
     run: &mut Run,
     log: &mut L,
@@ -53,11 +53,12 @@ pub(crate) fn give_answer<L: Sink, M: Sink, O: Sink>(
     conn: u16,
     lines: &[u8],
     mails: &[u8],
-    response: &[u8],
+    head: &[u8],
+    body: &[u8],
 ) -> Given
     ensures same { (run.new.service ≡ run.old.service) × (run.new.connections ≡ run.old.connections) × (run.new.calls ≡ run.old.calls) }
     ensures gave { (store store' : Option Store) (told told' : Answers) (made made' : ℕ)
-        → GaveAll result (three lines.now mails.now (record_text conn response.now)) (world (L.written log.old) (M.written mail.old) (O.written out.old) store told made)
+        → GaveAll result (three lines.now mails.now (record_text conn (head.now ++ body.now))) (world (L.written log.old) (M.written mail.old) (O.written out.old) store told made)
         (world (L.written log.new) (M.written mail.new) (O.written out.new) store' told' made') }
     ensures number { OnWhole result (run.new.number ≡ run.old.number + 1) }
     ensures cause { CausedIn result
@@ -67,36 +68,38 @@ pub(crate) fn give_answer<L: Sink, M: Sink, O: Sink>(
     let Some(next) = run.number.checked_add(1) else {
         return Given::Memory;
     };
-    let Ok(record) = output_record(run.alloc, conn, response) else {
+    let Ok(record) = output_record(run.alloc, conn, head, body) else {
         return Given::Memory;
     };
     run.number = next;
     give_three(log, mail, out, lines, mails, record.as_slice())
 }
 
-// Gives an outcome: what it puts into the log, its mail records, and the record of its response.
-fn give_outcome<L: Sink, M: Sink, O: Sink>(
+// Gives what a request answers: what it puts into the log, its mail records, and the record of its response. Its journal is let go before the
+// record is made.
+fn give_reply<L: Sink, M: Sink, O: Sink>(
     run: &mut Run,
     log: &mut L,
     mail: &mut M,
     out: &mut O,
     conn: u16,
-    outcome: &Outcome,
+    reply: Answer,
 ) -> Given
     ensures same { (run.new.service ≡ run.old.service) × (run.new.connections ≡ run.old.connections) × (run.new.calls ≡ run.old.calls) }
     ensures gave { (store store' : Option Store) (told told' : Answers) (made made' : ℕ)
-        → GaveAll result (three (logged run.old.service.logging run.old.number outcome.now.journal) outcome.now.mail (record_text conn outcome.now.response)) (world (L.written log.old) (M.written mail.old) (O.written out.old) store told made)
+        → GaveAll result (three (logged run.old.service.logging run.old.number reply.journal) reply.mail (record_text conn reply.response)) (world (L.written log.old) (M.written mail.old) (O.written out.old) store told made)
         (world (L.written log.new) (M.written mail.new) (O.written out.new) store' told' made') }
-    ensures told { ClassesAreNames outcome.now.journal → CanTell run.old.service.logging run.old.number outcome.now.journal }
+    ensures told { ClassesAreNames reply.journal → CanTell run.old.service.logging run.old.number reply.journal }
     ensures number { OnWhole result (run.new.number ≡ run.old.number + 1) }
     ensures cause { CausedIn result
         (sinks (counts (L.faults log.old) (L.stalls log.old)) (counts (M.faults mail.old) (M.stalls mail.old)) (counts (O.faults out.old) (O.stalls out.old)))
         (sinks (counts (L.faults log.new) (L.stalls log.new)) (counts (M.faults mail.new) (M.stalls mail.new)) (counts (O.faults out.new) (O.stalls out.new))) }
 {
     let logging = run.service.logging;
-    let Ok(lines) = logged(run.alloc, logging, run.number, &outcome.journal) else {
+    let Ok(lines) = logged(run.alloc, logging, run.number, reply.journal()) else {
         return Given::Memory;
     };
+    let parts = reply.into_parts(run.alloc);
     give_answer(
         run,
         log,
@@ -104,8 +107,9 @@ fn give_outcome<L: Sink, M: Sink, O: Sink>(
         out,
         conn,
         lines.as_slice(),
-        outcome.mail.as_slice(),
-        outcome.response.as_slice(),
+        parts.mail.as_slice(),
+        parts.head.as_slice(),
+        parts.body.as_slice(),
     )
 }
 
@@ -134,7 +138,7 @@ pub(crate) fn serve_request<F: Files, T: Tables, L: Sink, M: Sink, O: Sink>(
         (sinks (counts (L.faults log.old) (L.stalls log.old)) (counts (M.faults mail.old) (M.stalls mail.old)) (counts (O.faults out.old) (O.stalls out.old)))
         (sinks (counts (L.faults log.new) (L.stalls log.new)) (counts (M.faults mail.new) (M.stalls mail.new)) (counts (O.faults out.new) (O.stalls out.new))) }
 {
-    let served = serve_one(
+    let served = answer_one(
         run.alloc,
         &mut run.service.site,
         request,
@@ -143,10 +147,10 @@ pub(crate) fn serve_request<F: Files, T: Tables, L: Sink, M: Sink, O: Sink>(
         tables,
         &mut run.calls,
     );
-    let Ok(outcome) = served else {
+    let Ok(reply) = served else {
         return Given::Memory;
     };
-    give_outcome(run, log, mail, out, conn, &outcome)
+    give_reply(run, log, mail, out, conn, reply)
 }
 
 /// Answers a refusal, which makes no keeper call.
@@ -185,6 +189,7 @@ pub(crate) fn serve_refusal<L: Sink, M: Sink, O: Sink>(
         lines.as_slice(),
         &[],
         response.as_slice(),
+        &[],
     )
 }
 
@@ -241,7 +246,7 @@ pub(crate) fn serve_event<F: Files, T: Tables, L: Sink, M: Sink, O: Sink>(
     out: &mut O,
     files: &mut F,
     tables: &mut T,
-    event: &TraceEvent,
+    event: TraceEvent,
 ) -> Given
     requires { AreNumbered run.old.calls }
     ensures service { run.new.service ≡ run.old.service }
@@ -252,19 +257,17 @@ pub(crate) fn serve_event<F: Files, T: Tables, L: Sink, M: Sink, O: Sink>(
         (sinks (counts (L.faults log.old) (L.stalls log.old)) (counts (M.faults mail.old) (M.stalls mail.old)) (counts (O.faults out.old) (O.stalls out.old)))
         (sinks (counts (L.faults log.new) (L.stalls log.new)) (counts (M.faults mail.new) (M.stalls mail.new)) (counts (O.faults out.new) (O.stalls out.new))) }
     ensures ran { (place : ℕ) (seen : List TraceEvent) → Hold run.old.connections seen
-        → RanEvent result (served run.old.service) seen (event.now, place) run.old.number run.new.number run.new.calls.made run.new.calls.failed run.new.connections
+        → RanEvent result (served run.old.service) seen (event, place) run.old.number run.new.number run.new.calls.made run.new.calls.failed run.new.connections
         (world (L.written log.old) (M.written mail.old) (O.written out.old) (store_of (F.stored files.old) (T.stored tables.old)) (answers (F.answers files.old) (T.answers tables.old)) run.old.calls.made)
         (world (L.written log.new) (M.written mail.new) (O.written out.new) (store_of (F.stored files.new) (T.stored tables.new)) (answers (F.answers files.new) (T.answers tables.new)) run.new.calls.made) }
 {
     match event {
-        TraceEvent::Piece { conn, bytes } => {
-            match run.connections.add(*conn, bytes.as_slice()) {
-                Ok(()) => serve_connection(run, log, mail, out, files, tables, *conn),
-                Err(_) => Given::Memory,
-            }
-        }
+        TraceEvent::Piece { conn, bytes } => match run.connections.add(conn, bytes) {
+            Ok(()) => serve_connection(run, log, mail, out, files, tables, conn),
+            Err(_) => Given::Memory,
+        },
         TraceEvent::End { conn } => {
-            run.connections.end(*conn);
+            run.connections.end(conn);
             Given::Whole
         }
     }
@@ -311,7 +314,7 @@ pub(crate) fn serve_ready<F: Files, T: Tables, L: Sink, M: Sink, O: Sink>(
     'records: loop {
         match reader.next() {
             Ok(Some(event)) => {
-                match serve_event(run, log, mail, out, files, tables, &event) {
+                match serve_event(run, log, mail, out, files, tables, event) {
                     Given::Whole => {}
                     Given::Fault => return Ready::Fault,
                     Given::Memory => return Ready::Memory,

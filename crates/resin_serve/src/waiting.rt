@@ -5,6 +5,7 @@ ghost use Rattle.resin_site.specs.Under.http.Steps.{Steps, Fits};
 ghost use Rattle.resin_trace.specs.Lines.{at, stream_of, added, used};
 ghost use Rattle.resin_serve.specs.Waiting_streams.{mark_at, start};
 
+use resin_site::under::base::Bytes;
 use resin_site::under::http::{Mark, Step, next_marked};
 use resin_trace::Connections;
 use std::alloc::{AllocError, Global};
@@ -40,14 +41,14 @@ impl WaitingStreams {
         }
     }
 
-    /// Puts bytes last on a connection; a refused one drops them. After want of memory every connection is as before.
-    pub(crate) fn add(&mut self, conn: u16, bytes: &[u8]) -> Result<(), AllocError>
-        ensures ok { OnOk result (at self.new conn ≡ Some (added (at self.old conn) bytes.now)) }
+    /// Puts bytes last on a connection, and lets them go; a refused one drops them. After want of memory every connection is as before.
+    pub(crate) fn add(&mut self, conn: u16, bytes: Bytes) -> Result<(), AllocError>
+        ensures ok { OnOk result (at self.new conn ≡ Some (added (at self.old conn) bytes)) }
         ensures err { OnErr result (at self.new conn ≡ at self.old conn) }
         ensures others { (c : ℕ) → c ≢ conn → at self.new c ≡ at self.old c }
     {
         make_room(&mut self.marks, usize::from(conn))?;
-        self.connections.add(conn, bytes)
+        self.connections.add(conn, bytes.as_slice())
     }
 
     /// What the front of a connection's stream asks.

@@ -2,7 +2,7 @@
 use Rattle.std.proofs.Common.{◌≡◌, ℕ, ◌+◌, ◌≤◌, Bool, List, [], ◌∷◌, ◌++◌, length, drop, Result, Ok, Err, refl, sym, ap, ◌∙◌, append_assoc, append-nil, subst}
 use Rattle.std.specs.Prelude.{IfOk, OnOk, unwrap_or}
 use Rattle.resin_request.specs.Under.bytes.declared.header.Header.{Header}
-use Rattle.resin_request.specs.Under.http.Response.{response}
+use Rattle.resin_request.specs.Under.http.Response.{response, response_head, shown_body}
 use Rattle.resin_request.specs.Under.journal.declared.event.Event.{Event}
 use Rattle.resin_request.specs.Under.journal.Events.{EventList}
 use Rattle.resin_request.specs.Under.journal.Lines.{line_of, log_of}
@@ -35,6 +35,12 @@ made end status headers body response mail journal = record {
   mail = mail;
   journal = journal;
 }
+
+-- a head before what is shown of its body is a response
+pub response_is : (status : ℕ) (headers : List Header) (kind body head : List ℕ) (head_only : Bool) → head ≡ response_head status headers kind (length body)
+    → head ++ shown_body head_only body ≡ response status headers kind body head_only
+unfolding response
+response_is status headers kind body head head_only e = ap (λ h. h ++ shown_body head_only body) e
 
 -- an outcome is made of its parts
 pub parts_are : (path : List ℕ) (head_only : Bool) (end : End) (s : Stage) (o : Outcome) → o.end ≡ end → o.status ≡ status_of end s.status → o.headers ≡ s.headers

@@ -1,5 +1,5 @@
 -- A request was served as it means.
-use Rattle.std.proofs.Common.{◌≡◌, ◌≢◌, ℕ, ◌+◌, Bool, List, [], ◌∷◌, ◌++◌, length, Option, Some, Result, Ok, Err, refl, sym, ap, ◌∙◌, arith, subst, ◌⊎◌, inl, inr}
+use Rattle.std.proofs.Common.{◌≡◌, ◌≢◌, ℕ, ◌+◌, Bool, List, [], ◌∷◌, ◌++◌, length, Option, Some, None, Result, Ok, Err, refl, sym, ap, ◌∙◌, arith, subst, ◌⊎◌, inl, inr}
 use Rattle.std.specs.Prelude.{IfOk, OnOk}
 use Rattle.std.specs.declared.alloc.AllocError.{AllocError}
 use Rattle.std.specs.Option.{option_map}
@@ -21,11 +21,11 @@ use Rattle.resin_request.specs.declared.request.Finish.{Finish}
 use Rattle.resin_request.specs.Paths.{path_of}
 use Rattle.resin_request.specs.Requests.{request_program}
 use Rattle.resin_site.specs.declared.outcome.Outcome.{Outcome}
-use Rattle.resin_site.specs.Keeping.{Store, Later, answers, store_of, Tells}
+use Rattle.resin_site.specs.Keeping.{Store, Answers, Later, answers, store_of, Tells}
 use Rattle.resin_site.specs.Laws.{IsLawful}
 use Rattle.resin_site.specs.Outcomes.{outcome}
 use Rattle.resin_site.specs.Replies.{is_head, begun, reply_out, steps, request}
-use Rattle.resin_site.specs.Serving.{PartReply, Served, Ends}
+use Rattle.resin_site.specs.Serving.{WholeReply, PartReply, Served, Ends}
 use Rattle.resin_site.proofs.Keepers.{agrees, tells, tells_none, where_stored, stored_as}
 use Rattle.resin_site.proofs.Ended.{memory_or, ends}
 
@@ -145,3 +145,31 @@ pub ends_end : (p : List ℕ) (head_only : Bool) (m : State) (u w : World) (end 
     → IfOk result (λ o. o ≡ outcome p head_only end m) → OnOk result (end ≢ Err Memory) → Blames end u w → Ends result w.calls.made u.calls.failed w.calls.failed
 ends_end p head_only m u w end (Ok o) is ne b = ends end m p head_only o u w ne is b
 ends_end p head_only m u w end (Err e) is ne b = tt
+
+-- what was served whole stands at its last moment
+part_of_whole : (fuel : ℕ) (K : List ℕ) (s : Store) (before number : ℕ) (r : Request) (old new : Answers) (failed : List ℕ) (o : Outcome) (now : Option Store) (made : ℕ)
+    → WholeReply (λ calls. Tells calls old new before made failed) o (request fuel K s before number r) now made
+    → PartReply (λ calls. Tells calls old new before made failed) before (request fuel K s before number r) now made
+unfolding request steps
+part_of_whole fuel K s before number r old new failed o now made w =
+    let out : Out Finish = request_program (path_of r.target) (inputs_of r) K (begun fuel s before number) in
+    record {
+      at = moment out.calls out.whole;
+      reached = inr (reached_behind (moment out.calls out.whole) out.moments (moment out.calls out.whole ∷ []) (inl refl));
+      made_is = w.called.made;
+      store_is = w.store_is;
+      called = w.called;
+    }
+
+-- memory was wanting behind the answer, or its outcome was made
+pub served_then : (fuel : ℕ) (K : List ℕ) (held : Option Store) (before number : ℕ) (r : Request) (old new : Answers) (failed : List ℕ) (o : Outcome) (result : Result Outcome AllocError) (now : Option Store) (made : ℕ)
+    → IfOk result (λ x. x ≡ o) → Served fuel K held before number r (λ calls. Tells calls old new before made failed) (Ok o) now made
+    → Served fuel K held before number r (λ calls. Tells calls old new before made failed) result now made
+served_then fuel K None before number r old new failed o result now made is h = tt
+served_then fuel K (Some s) before number r old new failed o (Ok x) now made is h =
+    subst (λ (y : Outcome). WholeReply (λ calls. Tells calls old new before made failed) y (request fuel K s before number r) now made) (sym is) h
+served_then fuel K (Some s) before number r old new failed o (Err e) now made is h = part_of_whole fuel K s before number r old new failed o now made h
+
+pub ends_then : (made : ℕ) (failed failed' : List ℕ) (o : Outcome) (result : Result Outcome AllocError) → IfOk result (λ x. x ≡ o) → Ends (Ok o) made failed failed' → Ends result made failed failed'
+ends_then made failed failed' o (Ok x) is h = subst (λ (y : Outcome). Ends (Ok y) made failed failed') (sym is) h
+ends_then made failed failed' o (Err e) is h = tt

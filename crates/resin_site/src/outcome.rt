@@ -9,9 +9,10 @@ ghost use Rattle.resin_request.specs.Under.machine.Keeping.{Tied};
 ghost use Rattle.resin_site.specs.Laws.{IsLawful};
 ghost use Rattle.resin_site.specs.Outcomes.{end_of, status_of, fixed_text, kind_at, outcome, with_parts, refused, refusal_text};
 
+use crate::answer::Answer;
 use itoa::Buffer;
 use resin_request::under::base::Bytes;
-use resin_request::under::http::{HeaderList, response_text};
+use resin_request::under::http::{HeaderList, response_head, response_text};
 use resin_request::under::journal::{Event, Journal, denial_line};
 use resin_request::under::machine::{Finished, Machine, Stop};
 use resin_request::under::scalar::ScriptFault;
@@ -136,14 +137,14 @@ fn kind_at(end: &End, path: &[u8]) -> &'static [u8]
     }
 }
 
-// The outcome of a request that ends so, with what left.
+// The answer of a request that ends so, with what left.
 fn with_parts(
     alloc: Global,
     path: &[u8],
     head_only: bool,
     end: End,
     left: Finished,
-) -> Result<Outcome, AllocError>
+) -> Result<Answer, AllocError>
     ensures { (s : TheStage) → left.status ≡ s.status → left.headers ≡ s.headers → left.body ≡ s.body → left.mail ≡ s.mail → left.journal ≡ s.journal
         → IfOk result (λ o. o ≡ with_parts path.now head_only end s) }
 {
@@ -151,34 +152,29 @@ fn with_parts(
     let kind = kind_at(&end, path);
     let mut body = left.body;
     push_fixed(&mut body, &end)?;
-    let response = response_text(
-        alloc,
-        status,
-        &left.headers,
-        kind,
-        body.as_slice(),
-        head_only,
-    )?;
-    Ok(Outcome {
+    let length = body.as_slice().len();
+    let head = response_head(alloc, status, &left.headers, kind, length)?;
+    Ok(Answer {
         end,
         status,
         headers: left.headers,
+        head,
         body,
-        response,
+        head_only,
         mail: left.mail,
         journal: left.journal,
     })
 }
 
-/// The outcome of a request for a path, by how its steps came to their end and the machine that they left. `Err` for want of memory alone, which
+/// The answer to a request for a path, by how its steps came to their end and the machine that they left. `Err` for want of memory alone, which
 /// may have been the end of the steps.
-pub(crate) fn outcome_for(
+pub(crate) fn answer_for(
     alloc: Global,
     path: &[u8],
     head_only: bool,
     finish: Result<Finish, Stop>,
     m: Machine,
-) -> Result<Outcome, AllocError>
+) -> Result<Answer, AllocError>
     ensures outcome { IfOk result (λ o. o ≡ outcome path.now head_only finish m) }
     ensures memory { OnOk result (finish ≢ Err stop.Memory) }
     ensures lawful { Tied m → IfOk result (λ o. IsLawful m.request o) }

@@ -9,7 +9,8 @@ ghost use Rattle.resin_site.specs.Laws.{IsLawful};
 ghost use Rattle.resin_site.specs.Replies.{is_head};
 ghost use Rattle.resin_site.specs.Serving.{Served, Ends};
 
-use crate::outcome::{Outcome, outcome_for};
+use crate::answer::Answer;
+use crate::outcome::{Outcome, answer_for};
 use crate::site::Site;
 use resin_request::path_of;
 use resin_request::under::base::{Calls, Files, Tables};
@@ -69,11 +70,50 @@ pub fn serve_one<F: Files, T: Tables>(
     // The keepers' own answers are those of the request's calls.
     ensures told { (made : List KeeperCall) × Tells made (answers (F.answers files.old) (T.answers tables.old)) (answers (F.answers files.new) (T.answers tables.new)) calls.old.made calls.new.made calls.new.failed }
 {
+    let answer = answer_one(alloc, site, r, number, files, tables, calls)?;
+    answer.into_outcome(alloc)
+}
+
+/// Answers one request as [`serve_one`] does, with its body held once: the outcome that it tells of is not made yet.
+pub fn answer_one<F: Files, T: Tables>(
+    alloc: Global,
+    site: &mut Site,
+    r: &Request,
+    number: u64,
+    files: &mut F,
+    tables: &mut T,
+    calls: &mut Calls,
+) -> Result<Answer, AllocError>
+    requires { AreNumbered calls.old }
+    ensures site { site.new ≡ site.old }
+    ensures numbered { AreNumbered calls.new }
+    ensures later { Passes calls.old.made calls.old.failed calls.new.made calls.new.failed }
+
+    // Whatever numbers follow those of the calls that failed: where the keepers tell what they hold, the request was served as it means.
+    ensures served { (K : List ℕ) → Later calls.new.made calls.new.failed K
+        → Served site.old K (store_of (F.stored files.old) (T.stored tables.old)) calls.old.made number r.now
+        (λ made. Tells made (answers (F.answers files.old) (T.answers tables.old)) (answers (F.answers files.new) (T.answers tables.new)) calls.old.made calls.new.made calls.new.failed)
+        result (store_of (F.stored files.new) (T.stored tables.new)) calls.new.made }
+
+    // The access law.
+    ensures lawful { IfOk result (λ o. IsLawful number o) }
+
+    // A keeper's failure ends the request, and is blamed on a keeper whose count of faults rose.
+    ensures ends { Ends result calls.new.made calls.old.failed calls.new.failed }
+    ensures blames { Blames calls.old.made calls.old.failed (faults (F.faults files.old) (T.faults tables.old))
+        calls.new.made calls.new.failed (faults (F.faults files.new) (T.faults tables.new)) }
+
+    // No count of faults falls.
+    ensures counted { (F.faults files.old ≤ F.faults files.new) × (T.faults tables.old ≤ T.faults tables.new) }
+
+    // The keepers' own answers are those of the request's calls.
+    ensures told { (made : List KeeperCall) × Tells made (answers (F.answers files.old) (T.answers tables.old)) (answers (F.answers files.new) (T.answers tables.new)) calls.old.made calls.new.made calls.new.failed }
+{
     let path = path_of(alloc, r.target.as_slice())?;
     let inputs = inputs(alloc, r)?;
     let mut m = Machine::begin(alloc, site.runtime(), site.fuel(), number)?;
     let finish = site.run(alloc, path.as_slice(), inputs, &mut m, files, tables, calls);
-    outcome_for(alloc, path.as_slice(), is_head(r.method), finish, m)
+    answer_for(alloc, path.as_slice(), is_head(r.method), finish, m)
 }
 
 // Whether only the head of the response is wanted.

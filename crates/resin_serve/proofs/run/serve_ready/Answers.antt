@@ -37,18 +37,6 @@ returns-in-Err-Memory-clause-went g c = λ seen b hold f.
     let m = rw c.in-Err-Memory.field-0-is at c.in-Err-Memory.ensures in
     stops_at _ b seen _ _ _ _ _ _ _ _ _ _ (c.records.invariant.so_far seen b hold f) m.0
 
-pub records-preserved-in-Whole : goal.records-preserved-in-Whole
-records-preserved-in-Whole g c =
-    let h = rw c.in-Ok-Some.field-0-is at c.in-Ok-Some.ensures in
-    let s = c.in-Whole.ensures in
-    record {
-      service = s.service ∙ c.records.invariant.service;
-      numbered = s.numbered;
-      kept = kept_then _ _ _ c.records.invariant.kept s.kept;
-      cause = s.cause ∙ c.records.invariant.cause;
-      so_far = λ seen b hold f. goes_on _ _ _ b seen _ _ _ _ _ _ _ _ _ _ _ _ _ _ _ _ (c.records.invariant.so_far seen b hold f) h (passes _ _ s.kept) (ap served c.records.invariant.service) s.ran;
-    }
-
 pub records-preserved : goal.records-preserved
 records-preserved g c =
     let h = rw c.in-Ok-Some.field-0-is at c.in-Ok-Some.ensures in

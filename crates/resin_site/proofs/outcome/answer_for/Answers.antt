@@ -3,7 +3,7 @@ use Rattle.resin_site.specs.Laws.{IsLawful}
 use Rattle.resin_site.specs.Outcomes.{with_parts, outcome}
 use Rattle.resin_site.proofs.Lawful.{lawful_parts}
 use Rattle.resin_site.proofs.Made.{parts_is, if_ok_map, on_any}
-use Rattle.resin_site.proofs.outcome.outcome_for.Goals as goal
+use Rattle.resin_site.proofs.outcome.answer_for.Goals as goal
 
 pub returns : goal.returns
 returns c =
