@@ -19,7 +19,7 @@ mod events;
 use resin_audit::under::journal_file::journal_text;
 use resin_audit::{Verdict, audit};
 use resin_bytes::Bytes;
-use resin_table_rows::{Line, bytes_in, split_row};
+use resin_table_rows::{Line, Row, answered_row, bytes_in, print_answers};
 use std::alloc::{AllocError, Global};
 use std::io;
 
@@ -39,21 +39,15 @@ fn push_verdict(alloc: Global, out: &mut Line, text: &[u8]) -> Result<(), AllocE
     Ok(())
 }
 
-// An argument, empty where the row has none there.
-fn argument<'a>(row: &[&'a str], i: usize) -> &'a str {
-    row.get(i).copied().unwrap_or("")
-}
-
 // The text of `repeat|COUNT|HEAD|PIECE|TAIL`.
-fn repeated(alloc: Global, row: &[&str]) -> Result<Bytes, AllocError> {
-    let count = argument(row, 1).parse::<u32>().unwrap_or(0);
-    let piece = bytes_in(alloc, argument(row, 3))?;
-    let mut text = Bytes::new(alloc);
-    text.push_slice(&bytes_in(alloc, argument(row, 2))?)?;
-    for _ in 0..count {
+fn repeated(row: Row<'_>) -> Result<Bytes, AllocError> {
+    let piece = bytes_in(row.alloc, row.field(3))?;
+    let mut text = Bytes::new(row.alloc);
+    text.push_slice(&bytes_in(row.alloc, row.field(2))?)?;
+    for _ in 0..row.number(1) {
         text.push_slice(&piece)?;
     }
-    text.push_slice(&bytes_in(alloc, argument(row, 4))?)?;
+    text.push_slice(&bytes_in(row.alloc, row.field(4))?)?;
     Ok(text)
 }
 
@@ -72,23 +66,20 @@ fn wide(alloc: Global, count: u32) -> Result<String, AllocError> {
 }
 
 // The text of `journal|REQUEST|EVENT|EVENT..`.
-fn journal(alloc: Global, row: &[&str]) -> Result<Bytes, AllocError> {
-    let request = argument(row, 1).parse::<u64>().unwrap_or(0);
-    let journal = events::journal_in(alloc, row.get(2..).unwrap_or(&[]))?;
-    journal_text(alloc, request, &journal)
+fn journal(row: Row<'_>) -> Result<Bytes, AllocError> {
+    let journal = events::journal_in(row.alloc, row.fields_from(2))?;
+    journal_text(row.alloc, row.count(1), &journal)
 }
 
-// Puts the answer of a row last.
-fn push_answer(alloc: Global, out: &mut Line, row: &[&str]) -> Result<(), AllocError> {
-    match argument(row, 0) {
-        "audit" => push_verdict(alloc, out, &bytes_in(alloc, argument(row, 1))?),
-        "repeat" => push_verdict(alloc, out, repeated(alloc, row)?.as_slice()),
-        "wide" => {
-            let count = argument(row, 1).parse::<u32>().unwrap_or(0);
-            push_verdict(alloc, out, wide(alloc, count)?.as_bytes())
-        }
+// Puts the verdict of a row last.
+fn push_answer(row: Row<'_>, out: &mut Line) -> Result<(), AllocError> {
+    let alloc = row.alloc;
+    match row.field(0) {
+        "audit" => push_verdict(alloc, out, &bytes_in(alloc, row.field(1))?),
+        "repeat" => push_verdict(alloc, out, repeated(row)?.as_slice()),
+        "wide" => push_verdict(alloc, out, wide(alloc, row.number(1))?.as_bytes()),
         "journal" => {
-            let text = journal(alloc, row)?;
+            let text = journal(row)?;
             out.push(' ');
             out.push_spaced_bytes(text.as_slice());
             push_verdict(alloc, out, text.as_slice())
@@ -100,22 +91,13 @@ fn push_answer(alloc: Global, out: &mut Line, row: &[&str]) -> Result<(), AllocE
     }
 }
 
-// The line with its answer.
-fn answered(alloc: Global, line: &str) -> Result<String, AllocError> {
-    let mut out = Line::new(alloc);
-    out.push_str(line);
-    if !line.starts_with('#') {
-        out.push_str(" =");
-        push_answer(alloc, &mut out, &split_row(alloc, line)?)?;
-    }
-    out.end()
+// Puts the answer of a row behind it.
+fn push_row(row: Row<'_>, out: &mut Line) {
+    out.push_str(" =");
+    let done = push_answer(row, out);
+    out.note(done);
 }
 
 fn main(rt: HostRuntime) -> io::Result<()> {
-    for line in rt.lines(rt.alloc()) {
-        let line = line?;
-        let text = answered(rt.alloc(), line.as_str())?;
-        rt.println(text)?;
-    }
-    Ok(())
+    print_answers(&rt, |alloc, row| answered_row(alloc, row, push_row))
 }

@@ -20,13 +20,12 @@ mod shown;
 mod stop;
 mod texts;
 
-use resin_table_rows::{Line, Row, split_row};
-use std::alloc::{AllocError, Global};
-use std::cell::Cell;
+use resin_table_rows::{Line, Row, answered_row, print_answers};
 use std::io;
 
 // Puts the answer of a call last.
 fn push_answer(row: Row<'_>, out: &mut Line) {
+    out.push_str(" =");
     let is_known = bytes::call(row, out)
         || labels::call(row, out)
         || texts::call(row, out)
@@ -35,45 +34,10 @@ fn push_answer(row: Row<'_>, out: &mut Line) {
         || comparisons::call(row, out)
         || operators::call(row, out);
     if !is_known {
-        out.push_word("Unreadable");
+        row.fail();
     }
-}
-
-// Puts the answer of a row behind it.
-fn push_row(alloc: Global, row: &str, out: &mut Line) -> Result<(), AllocError> {
-    let fields = split_row(alloc, row)?;
-    let is_unreadable = Cell::new(false);
-    out.push_str(" =");
-    push_answer(
-        Row {
-            alloc,
-            fields: &fields,
-            is_unreadable: &is_unreadable,
-        },
-        out,
-    );
-    if is_unreadable.get() {
-        out.push_word("Unreadable");
-    }
-    Ok(())
-}
-
-// The line of a row and its answer.
-fn answered(alloc: Global, row: &str) -> Result<String, AllocError> {
-    let mut out = Line::new(alloc);
-    out.push_str(row);
-    if !row.starts_with('#') {
-        let done = push_row(alloc, row, &mut out);
-        out.note(done);
-    }
-    out.end()
 }
 
 fn main(rt: HostRuntime) -> io::Result<()> {
-    for row in rt.lines(rt.alloc()) {
-        let row = row?;
-        let line = answered(rt.alloc(), row.as_str())?;
-        rt.println(line)?;
-    }
-    Ok(())
+    print_answers(&rt, |alloc, row| answered_row(alloc, row, push_answer))
 }

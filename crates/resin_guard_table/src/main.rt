@@ -8,9 +8,8 @@
 use resin_guard::{Guard, html_guard, literal_spans, sql_guard};
 use resin_label::PSet;
 use resin_lstr::LText;
-use resin_table_rows::{Line, cut};
-use resin_table_sql::{push_fault, push_text_fault};
-use resin_table_values::marked_in;
+use resin_table_rows::{Line, cut, print_answers};
+use resin_table_sql::{Printer, answered, push_fault};
 use std::alloc::{AllocError, Global};
 use std::io;
 
@@ -36,7 +35,8 @@ fn push_literals(alloc: Global, out: &mut Line, text: &LText) {
     }
 }
 
-fn push_answer(alloc: Global, out: &mut Line, kind: &str, text: &LText) -> Result<(), AllocError> {
+fn push_answer(out: &mut Line, kind: &str, printer: Printer<'_>) -> Result<(), AllocError> {
+    let Printer { alloc, text } = printer;
     let bad = PSet::empty().with(alloc, 1)?;
     match kind {
         "p" => push_verdict(out, html_guard(alloc, text, &bad)?),
@@ -47,19 +47,13 @@ fn push_answer(alloc: Global, out: &mut Line, kind: &str, text: &LText) -> Resul
 }
 
 fn shown(alloc: Global, line: &str) -> Result<String, AllocError> {
-    let mut out = Line::new(alloc);
     let (kind, field) = cut(line, ' ');
-    match marked_in(alloc, field) {
-        Ok(text) => push_answer(alloc, &mut out, kind, &text)?,
-        Err(fault) => push_text_fault(&mut out, fault),
-    }
-    out.end()
+    answered(alloc, field, |out, printer| {
+        let done = push_answer(out, kind, printer);
+        out.note(done);
+    })
 }
 
 fn main(rt: HostRuntime) -> io::Result<()> {
-    for line in rt.lines(rt.alloc()) {
-        let line = line?;
-        rt.println(shown(rt.alloc(), line.as_str())?)?;
-    }
-    Ok(())
+    print_answers(&rt, shown)
 }

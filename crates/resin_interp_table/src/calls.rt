@@ -1,9 +1,9 @@
 //! Rows that call a function by its name.
-use crate::line::Line;
 use crate::shown::{push_answer, push_left};
 use resin_interp::under::base::{Calls, FailList};
 use resin_interp::{Machine, Stop, call_function};
 use resin_memory::{CalmFiles, CalmTables};
+use resin_table_rows::Line;
 use resin_value::under::lstr::{LText, TextFault};
 use resin_value::{Value, Values};
 use std::alloc::{AllocError, Global};
@@ -55,7 +55,7 @@ fn answered(alloc: Global, m: &mut Machine, name: &str, args: &Values) -> Result
 
 fn push_call(alloc: Global, out: &mut Line, m: &mut Machine, name: &str, args: &Values) {
     let end = answered(alloc, m, name, args);
-    push_answer(out, m, &end);
+    push_answer(alloc, out, m, &end);
 }
 
 fn push_on_machine(alloc: Global, out: &mut Line, name: &str, args: &Values, machine: Machine) {
@@ -65,9 +65,9 @@ fn push_on_machine(alloc: Global, out: &mut Line, name: &str, args: &Values, mac
 }
 
 fn push_called(alloc: Global, out: &mut Line, name: &str, args: &Values) {
-    match Machine::new(alloc, 100_000, 1) {
-        Ok(machine) => push_on_machine(alloc, out, name, args, machine),
-        Err(AllocError) => out.lose(),
+    let machine = Machine::new(alloc, 100_000, 1);
+    if let Some(machine) = out.taken(machine) {
+        push_on_machine(alloc, out, name, args, machine);
     }
 }
 
@@ -77,8 +77,8 @@ pub fn push_row(alloc: Global, out: &mut Line, row: &str) {
         Some((name, pieces)) => (name, Some(pieces)),
         None => (row, None),
     };
-    match arguments(alloc, pieces) {
-        Ok(args) => push_called(alloc, out, name, &args),
-        Err(AllocError) => out.lose(),
+    let args = arguments(alloc, pieces);
+    if let Some(args) = out.taken(args) {
+        push_called(alloc, out, name, &args);
     }
 }

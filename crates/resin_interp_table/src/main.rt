@@ -1,5 +1,5 @@
 //! Runs the script on each line, as code behind `<?php `, and prints how it ended, the status with the headers that it set, the body, and the denials and the
-//! mail that it left, where there are any. `\n` on a line stands for that byte, both in what is read and in what is printed. A line that begins with `# ` is a heading
+//! mail that it left, where there are any. `\n` on a line stands for that byte, and in what is printed `\r` and `\0` do too. A line that begins with `# ` is a heading
 //! and is printed as it is. A script has 100,000 ticks; where a number and `|` stand before it, it has as many as that, and the ticks that it took are printed too.
 //! A line `call NAME|ARGUMENT|..` calls a function by its name, with texts and without a script, and prints what it gives.
 //!
@@ -9,11 +9,10 @@
 #![tactic(auto)]
 
 mod calls;
-mod line;
 mod scripts;
 mod shown;
 
-use crate::line::Line;
+use resin_table_rows::{Line, print_answers};
 use std::alloc::{AllocError, Global};
 use std::io;
 
@@ -26,14 +25,9 @@ fn answer(alloc: Global, row: &str) -> Result<String, AllocError> {
         Some(call) => calls::push_row(alloc, &mut out, call),
         None => scripts::push_row(alloc, &mut out, row),
     }
-    out.into_text()
+    out.end()
 }
 
 fn main(rt: HostRuntime) -> io::Result<()> {
-    for row in rt.lines(rt.alloc()) {
-        let row = row?;
-        let text = answer(rt.alloc(), row.as_str())?;
-        rt.println(text)?;
-    }
-    Ok(())
+    print_answers(&rt, answer)
 }

@@ -1,13 +1,13 @@
 //! Rows that are scripts.
 ghost use Rattle.std.specs.Prelude.{◌≤◌, length};
 
-use crate::line::Line;
 use crate::shown::{push_end, push_left};
 use resin_interp::under::base::{Calls, FailList};
 use resin_interp::{Flow, Machine, Stop, run_program};
 use resin_lex::{ParseFault, Program};
 use resin_memory::{CalmFiles, CalmTables};
 use resin_parse::program;
+use resin_table_rows::Line;
 use std::alloc::{AllocError, Global};
 
 /// The fuel of a row, and whether the ticks that it took are asked for.
@@ -57,7 +57,7 @@ fn source_of(alloc: Global, script: &str) -> Result<String, AllocError> {
             source.push(c);
         }
     }
-    source.into_text()
+    source.end()
 }
 
 /// Runs a program over keepers that hold nothing.
@@ -73,14 +73,13 @@ fn ended(alloc: Global, m: &mut Machine, p: &Program) -> Result<Flow, Stop> {
 
 fn push_run(alloc: Global, out: &mut Line, m: &mut Machine, p: &Program) {
     let end = ended(alloc, m, p);
-    push_end(out, m, &end);
+    push_end(alloc, out, m, &end);
 }
 
 /// The ticks that a script took, where they are asked for.
 fn push_spent(out: &mut Line, fuel: Fuel, left: u64) {
     if fuel.is_asked {
-        out.push_str(" | ");
-        out.push_count(u64::from(fuel.ticks).saturating_sub(left));
+        out.tell(" | ", u64::from(fuel.ticks).saturating_sub(left), "");
     }
 }
 
@@ -92,23 +91,17 @@ fn push_on_machine(alloc: Global, out: &mut Line, fuel: Fuel, p: &Program, machi
 }
 
 fn push_program(alloc: Global, out: &mut Line, fuel: Fuel, p: &Program) {
-    match Machine::new(alloc, fuel.ticks, 1) {
-        Ok(machine) => push_on_machine(alloc, out, fuel, p, machine),
-        Err(AllocError) => out.lose(),
+    let machine = Machine::new(alloc, fuel.ticks, 1);
+    if let Some(machine) = out.taken(machine) {
+        push_on_machine(alloc, out, fuel, p, machine);
     }
 }
 
 /// Where a text stops being the front of a program.
 fn push_fault(out: &mut Line, fault: ParseFault) {
     match fault {
-        ParseFault::Syntax { offset } => {
-            out.push_str("Syntax at ");
-            out.push_count(u64::from(offset));
-        }
-        ParseFault::TooDeep { offset } => {
-            out.push_str("TooDeep at ");
-            out.push_count(u64::from(offset));
-        }
+        ParseFault::Syntax { offset } => out.tell("Syntax at ", u64::from(offset), ""),
+        ParseFault::TooDeep { offset } => out.tell("TooDeep at ", u64::from(offset), ""),
         ParseFault::Memory => out.push_str("memory"),
     }
 }
@@ -127,8 +120,8 @@ fn push_source(alloc: Global, out: &mut Line, fuel: Fuel, source: &[u8]) {
 /// Runs the script of a row, and shows what came of it.
 pub fn push_row(alloc: Global, out: &mut Line, row: &str) {
     let (fuel, script) = fuel_of(row);
-    match source_of(alloc, script) {
-        Ok(source) => push_source(alloc, out, fuel, source.as_bytes()),
-        Err(AllocError) => out.lose(),
+    let source = source_of(alloc, script);
+    if let Some(source) = out.taken(source) {
+        push_source(alloc, out, fuel, source.as_bytes());
     }
 }

@@ -25,9 +25,8 @@ mod shown;
 
 use crate::shown::push_done;
 use resin_step_parts::under::machine::Machine;
-use resin_table_rows::{Line, Row, split_row};
+use resin_table_rows::{Line, Row, answered_row};
 use std::alloc::{AllocError, Global};
-use std::cell::Cell;
 use std::io;
 
 // The machine that the acts act on.
@@ -92,33 +91,9 @@ fn take(row: Row<'_>, desk: &mut Desk, out: &mut Line) {
     }
 }
 
-fn push_row(alloc: Global, desk: &mut Desk, line: &str, out: &mut Line) -> Result<(), AllocError> {
-    let fields = split_row(alloc, line)?;
-    let is_unreadable = Cell::new(false);
-    take(
-        Row {
-            alloc,
-            fields: &fields,
-            is_unreadable: &is_unreadable,
-        },
-        desk,
-        out,
-    );
-    if is_unreadable.get() {
-        out.push_str(" = Unreadable 0");
-    }
-    Ok(())
-}
-
 // The line with its answer.
 fn answered(alloc: Global, desk: &mut Desk, line: &str) -> Result<String, AllocError> {
-    let mut out = Line::new(alloc);
-    out.push_str(line);
-    if !line.starts_with('#') {
-        let done = push_row(alloc, desk, line, &mut out);
-        out.note(done);
-    }
-    out.end()
+    answered_row(alloc, line, |row, out| take(row, desk, out))
 }
 
 fn main(rt: HostRuntime) -> io::Result<()> {

@@ -10,7 +10,7 @@
 ghost use Rattle.std.specs.Prelude.{◌≤◌, length};
 
 use resin_lex::{ParseFault, TokenKind, TokenList, line_of, token_lines, tokens, tokens_and_fault};
-use resin_table_rows::{bytes_in, cut, repeat_in};
+use resin_table_rows::{bytes_in, cut, print_answers, repeat_in};
 use std::alloc::{AllocError, Global};
 use std::io;
 
@@ -164,10 +164,5 @@ fn answer_to(alloc: Global, line: &str) -> Result<String, AllocError> {
 }
 
 fn main(rt: HostRuntime) -> io::Result<()> {
-    for line in rt.lines(rt.alloc()) {
-        let line = line?;
-        let text = answer_to(rt.alloc(), line.as_str())?;
-        rt.println(text)?;
-    }
-    Ok(())
+    print_answers(&rt, answer_to)
 }

@@ -1,7 +1,7 @@
 //! Keepers of files.
-use crate::streams::numbers;
 use resin_base::{Calls, Entry, FailList, Files, KeepFault};
 use resin_memory::{CalmFiles, FakeFiles};
+use resin_table_keepers::fails_in;
 use resin_table_rows::{Line, bytes_in, cut};
 use std::alloc::{AllocError, Global};
 
@@ -174,58 +174,67 @@ pub fn push_put(out: &mut Line, done: Result<(), AllocError>) {
     out.push_str("put");
 }
 
+// Files in memory, which are put and seen without a call.
+trait Shelf: Files {
+    fn seen(&self, path: &[u8]) -> Option<(&[u8], &[u8])>;
+
+    fn set(&mut self, path: &[u8], bytes: &[u8], shadow: &[u8]) -> Result<(), AllocError>;
+}
+
+impl Shelf for CalmFiles {
+    fn seen(&self, path: &[u8]) -> Option<(&[u8], &[u8])> {
+        self.get(path)
+    }
+
+    fn set(&mut self, path: &[u8], bytes: &[u8], shadow: &[u8]) -> Result<(), AllocError> {
+        self.put(path, bytes, shadow)
+    }
+}
+
+impl Shelf for FakeFiles {
+    fn seen(&self, path: &[u8]) -> Option<(&[u8], &[u8])> {
+        self.get(path)
+    }
+
+    fn set(&mut self, path: &[u8], bytes: &[u8], shadow: &[u8]) -> Result<(), AllocError> {
+        self.put(path, bytes, shadow)
+    }
+}
+
 // Takes a step of files in memory, of which `get` and `put` are no calls.
-fn push_calm_step(
+fn push_shelf_step<F: Shelf>(
     alloc: Global,
     out: &mut Line,
-    files: &mut CalmFiles,
+    files: &mut F,
     step: &str,
 ) -> Result<(), AllocError> {
     let (name, words) = cut(step, ' ');
     let (path, bytes, shadow) = parts(words);
     match name {
-        "get" => push_got(out, files.get(path)),
-        "put" => push_put(out, files.put(path, bytes, shadow)),
+        "get" => push_got(out, files.seen(path)),
+        "put" => push_put(out, files.set(path, bytes, shadow)),
         _ => return push_step(alloc, out, files, step),
     }
     Ok(())
+}
+
+fn push_shelf<F: Shelf>(alloc: Global, out: &mut Line, files: &mut F, steps: &str) {
+    for step in steps.split('|') {
+        let done = push_shelf_step(alloc, out, files, step);
+        out.note(done);
+        out.push_str("; ");
+    }
 }
 
 /// Files in memory that never fail.
 pub fn push_calm(alloc: Global, out: &mut Line, steps: &str) -> Result<(), AllocError> {
-    let mut files = CalmFiles::new(alloc);
-    for step in steps.split('|') {
-        let done = push_calm_step(alloc, out, &mut files, step);
-        out.note(done);
-        out.push_str("; ");
-    }
-    Ok(())
-}
-
-fn push_fake_step(
-    alloc: Global,
-    out: &mut Line,
-    files: &mut FakeFiles,
-    step: &str,
-) -> Result<(), AllocError> {
-    let (name, words) = cut(step, ' ');
-    let (path, bytes, shadow) = parts(words);
-    match name {
-        "get" => push_got(out, files.get(path)),
-        "put" => push_put(out, files.put(path, bytes, shadow)),
-        _ => return push_step(alloc, out, files, step),
-    }
+    push_shelf(alloc, out, &mut CalmFiles::new(alloc), steps);
     Ok(())
 }
 
 /// Files in memory of which the listed calls fail.
 pub fn push_fake(alloc: Global, out: &mut Line, fail: &str, steps: &str) -> Result<(), AllocError> {
-    let fail = numbers(alloc, fail)?;
-    let mut files = FakeFiles::new(alloc, fail);
-    for step in steps.split('|') {
-        let done = push_fake_step(alloc, out, &mut files, step);
-        out.note(done);
-        out.push_str("; ");
-    }
+    let fail = fails_in(alloc, fail, 0)?;
+    push_shelf(alloc, out, &mut FakeFiles::new(alloc, fail), steps);
     Ok(())
 }

@@ -1,22 +1,12 @@
 //! Sources and sinks.
 use crate::files::push_fault;
 use crate::text::number;
-use resin_base::{Bytes, FailList, KeepFault, Sink, Source};
+use resin_base::{Bytes, KeepFault, Sink, Source};
 use resin_edge::{StdSink, StdSource};
 use resin_memory::{CalmSink, CalmSource, FakeSink, FakeSource};
+use resin_table_keepers::fails_in;
 use resin_table_rows::{Line, cut};
 use std::alloc::{AllocError, Global};
-
-/// The numbers that are written in words.
-pub fn numbers(alloc: Global, words: &str) -> Result<FailList, AllocError> {
-    let mut list = FailList::new(alloc);
-    for word in words.split(' ') {
-        if let Ok(number) = word.parse::<u64>() {
-            list.push(number)?;
-        }
-    }
-    Ok(list)
-}
 
 // Takes bytes into a buffer, and adds how many.
 fn push_take<S: Source>(out: &mut Line, source: &mut S, buffer: &mut [u8]) {
@@ -66,7 +56,7 @@ pub fn push_fake_source(
     let (text, steps) = cut(fields, '|');
     let (chunk, fail) = cut(words, ' ');
     let bytes = Bytes::from_slice(alloc, text.as_bytes())?;
-    let mut source = FakeSource::new(bytes, number(chunk).max(1), numbers(alloc, fail)?);
+    let mut source = FakeSource::new(bytes, number(chunk).max(1), fails_in(alloc, fail, 0)?);
     push_takes(alloc, out, &mut source, steps)
 }
 
@@ -110,7 +100,7 @@ pub fn push_fake_sink(
     pieces: &str,
 ) -> Result<(), AllocError> {
     let (chunk, fail) = cut(words, ' ');
-    let mut sink = FakeSink::new(alloc, number(chunk), numbers(alloc, fail)?);
+    let mut sink = FakeSink::new(alloc, number(chunk), fails_in(alloc, fail, 0)?);
     push_gives(out, &mut sink, pieces);
     out.push_spaced_bytes(sink.written());
     Ok(())

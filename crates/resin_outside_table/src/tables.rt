@@ -3,11 +3,11 @@ ghost use Rattle.std.specs.Prelude.{◌≡◌};
 ghost use Rattle.resin_base.specs.Numbering.{AreNumbered};
 
 use crate::files::{push_calls, push_fault, push_put, push_whether};
-use crate::streams::numbers;
 use resin_base::{
     Bytes, Calls, Cell, Cells, Column, Columns, FailList, KeepFault, Kind, Rows, Tables,
 };
 use resin_memory::{CalmTables, FakeTables};
+use resin_table_keepers::fails_in;
 use resin_table_rows::{Line, cut};
 use std::alloc::{AllocError, Global};
 
@@ -273,7 +273,7 @@ fn push_fake_step(
 
 /// Tables in memory of which the listed calls fail.
 pub fn push_fake(alloc: Global, out: &mut Line, fail: &str, steps: &str) -> Result<(), AllocError> {
-    let fail = numbers(alloc, fail)?;
+    let fail = fails_in(alloc, fail, 0)?;
     let mut tables = FakeTables::new(alloc, fail);
     for step in steps.split('|') {
         let done = push_fake_step(alloc, out, &mut tables, step);

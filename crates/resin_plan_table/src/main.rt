@@ -22,7 +22,8 @@ use resin_base::{Calls, FailList};
 use resin_lstr::LText;
 use resin_plan::exec;
 use resin_sql::{SqlFault, Stmt, literals, read_sql};
-use resin_table_rows::Line;
+use resin_table_keepers::fails_in;
+use resin_table_rows::{Line, print_answers};
 use resin_table_sql::{plain_text, push_calls, stored_of};
 use std::alloc::{AllocError, Global};
 use std::io;
@@ -69,14 +70,6 @@ fn push_statement(
     Ok(())
 }
 
-/// Lists the calls that fail.
-fn push_fails(fail: &mut FailList, numbers: &str) -> Result<(), AllocError> {
-    for word in numbers.split(' ') {
-        fail.push(word.parse::<u64>().unwrap_or(0))?;
-    }
-    Ok(())
-}
-
 /// Takes a field, and adds what came of it if it is a statement.
 fn push_field(
     out: &mut Line,
@@ -85,7 +78,10 @@ fn push_field(
     calls: &mut Calls,
 ) -> Result<(), AllocError> {
     match field.split_once(' ') {
-        Some(("fail", numbers)) => push_fails(&mut shelf.board.fail, numbers),
+        Some(("fail", numbers)) => {
+            shelf.board.fail = fails_in(shelf.board.alloc, numbers, 0)?;
+            Ok(())
+        }
         Some(("made", number)) => {
             calls.made = number.parse::<u64>().unwrap_or(0);
             Ok(())
@@ -120,10 +116,5 @@ fn run(alloc: Global, line: &str) -> Result<String, AllocError> {
 }
 
 fn main(rt: HostRuntime) -> io::Result<()> {
-    for line in rt.lines(rt.alloc()) {
-        let line = line?;
-        let text = run(rt.alloc(), line.as_str())?;
-        rt.println(text)?;
-    }
-    Ok(())
+    print_answers(&rt, run)
 }

@@ -7,7 +7,7 @@ use resin_base::{
     Bytes, Cell, Cells, Column, Columns, FailList, KeepFault, Kind, Row, Rows, Tables,
 };
 use resin_table_rows::{Line, cut};
-use resin_table_sql::push_cell;
+use resin_table_sql::{cell_in, copied, push_cell};
 use std::alloc::{AllocError, Global};
 use std::mem;
 
@@ -29,18 +29,6 @@ pub(crate) struct Board {
     made: u64,
     // The calls since they were last taken.
     log: Line,
-}
-
-fn text_cell(alloc: Global, bytes: &[u8]) -> Result<Cell, AllocError> {
-    Ok(Cell::Text(Bytes::from_slice(alloc, bytes)?))
-}
-
-fn copied(alloc: Global, cell: &Cell) -> Result<Cell, AllocError> {
-    match cell {
-        Cell::Null => Ok(Cell::Null),
-        Cell::Int(n) => Ok(Cell::Int(*n)),
-        Cell::Text(text) => text_cell(alloc, text.as_slice()),
-    }
 }
 
 fn copied_cells(alloc: Global, cells: &[Cell]) -> Result<Cells, AllocError> {
@@ -148,7 +136,7 @@ fn cells_of(alloc: Global, words: &str) -> Result<Cells, AllocError> {
     let mut cells = Cells::new(alloc);
     for word in words.split(' ') {
         if !word.starts_with('#') {
-            cells.push(cell_of(alloc, word)?)?;
+            cells.push(cell_in(alloc, word)?)?;
         }
     }
     Ok(cells)
@@ -158,17 +146,6 @@ fn cells_of(alloc: Global, words: &str) -> Result<Cells, AllocError> {
 fn number_of(words: &str) -> Option<u64> {
     let digits = words.split(' ').find_map(|word| word.strip_prefix('#'))?;
     digits.parse::<u64>().ok()
-}
-
-/// A cell as a row of the input has it.
-fn cell_of(alloc: Global, word: &str) -> Result<Cell, AllocError> {
-    if let Some(text) = word.strip_prefix('\'') {
-        return Ok(Cell::Text(Bytes::from_slice(alloc, text.as_bytes())?));
-    }
-    match word.parse::<i64>() {
-        Ok(n) => Ok(Cell::Int(n)),
-        Err(_) => Ok(Cell::Null),
-    }
 }
 
 fn next_number(rows: &[Row]) -> Option<u64> {

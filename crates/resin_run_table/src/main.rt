@@ -1,5 +1,5 @@
-//! Serves traces over a small site, one run a line. Fields stand between `|`, and `\n` and `\r` stand for those bytes. The first field is the
-//! kind of the row, with settings behind it, each a word and a number; in each kind but the last come then the words of the command line and what
+//! Serves traces over a small site, one run a line. Fields stand between `|`, and `\n`, `\r` and `\0` stand for those bytes. The first field is
+//! the kind of the row, with settings behind it, each a word and a number; in each kind but the last come then the words of the command line and what
 //! comes in. The site holds `a.php` with `hi` and `d.txt` with `abc`; a name and the bytes of a further file may stand last, and more of them.
 //! The kinds are:
 //!
@@ -27,8 +27,9 @@ mod keepers;
 mod rows;
 mod runs;
 mod settings;
-mod text;
 
+use resin_table_keepers::unescaped;
+use resin_table_rows::{Line, print_answers};
 use std::alloc::{AllocError, Global};
 use std::io;
 
@@ -36,15 +37,13 @@ fn run(alloc: Global, line: &str) -> Result<String, AllocError> {
     if line.starts_with("# ") {
         return String::from_str(alloc, line);
     }
-    let text = text::unescaped(alloc, line)?;
-    rows::answer(alloc, text.as_str())
+    let text = unescaped(alloc, line)?;
+    let mut out = Line::new(alloc);
+    let done = rows::push_answer(alloc, &mut out, text.as_str());
+    out.note(done);
+    out.end()
 }
 
 fn main(rt: HostRuntime) -> io::Result<()> {
-    for line in rt.lines(rt.alloc()) {
-        let line = line?;
-        let text = run(rt.alloc(), line.as_str())?;
-        rt.println(text)?;
-    }
-    Ok(())
+    print_answers(&rt, run)
 }

@@ -1,8 +1,10 @@
 //! Rows, and the traces that they stand for.
-use crate::runs::{calm, calm_run, fake, left_after, push_status, shown_run, status_of, turns};
-use crate::text::cut;
+use crate::runs::{
+    calm_run, push_calm, push_fake, push_left_after, push_run, push_status, push_turns, status_of,
+};
 use resin_base::Bytes;
 use resin_serve::Status;
+use resin_table_rows::{Line, cut};
 use std::alloc::{AllocError, Global};
 
 // A record of connection 1.
@@ -22,7 +24,7 @@ fn push_singly(alloc: Global, trace: &mut Bytes, text: &str) -> Result<(), Alloc
 }
 
 // A stream byte by byte: its front, and further texts, each behind the number of times that it comes.
-fn singly(alloc: Global, fields: &str) -> Result<String, AllocError> {
+fn push_singles(alloc: Global, out: &mut Line, fields: &str) -> Result<(), AllocError> {
     let (words, rest) = cut(fields, '|');
     let mut trace = Bytes::new(alloc);
     let mut times = 1;
@@ -36,7 +38,7 @@ fn singly(alloc: Global, fields: &str) -> Result<String, AllocError> {
             times = 1;
         }
     }
-    shown_run(alloc, words, trace, "")
+    push_run(alloc, out, words, trace, "")
 }
 
 // The output of a stream in two records, or in one where it isn't cut, and how the run ended.
@@ -69,7 +71,7 @@ fn is_alike(
 }
 
 // A stream that is cut at each place in turn.
-fn cuts(alloc: Global, fields: &str) -> Result<String, AllocError> {
+fn push_cuts(alloc: Global, out: &mut Line, fields: &str) -> Result<(), AllocError> {
     let (words, stream) = cut(fields, '|');
     let stream = stream.as_bytes();
     let (status, wanted) = output_of(alloc, words, stream, b"")?;
@@ -79,35 +81,33 @@ fn cuts(alloc: Global, fields: &str) -> Result<String, AllocError> {
             alike = alike.saturating_add(1);
         }
     }
-    let mut text = String::new(alloc);
-    push_status(&mut text, status)?;
-    let (count, places) = (wanted.as_slice().len(), stream.len());
-    write!(text, " | {count} bytes | {alike} of {places} cuts alike")?;
-    Ok(text)
+    push_status(out, status);
+    out.tell(" | ", wanted.as_slice().len() as u64, " bytes");
+    out.tell(" | ", alike as u64, "");
+    out.tell(" of ", stream.len() as u64, " cuts alike");
+    Ok(())
 }
 
-fn code(alloc: Global, word: &str) -> Result<String, AllocError> {
+fn push_code(out: &mut Line, word: &str) {
     match status_of(word) {
-        Some(status) => {
-            let code = status.code();
-            format!(in alloc; "{code}")
-        }
-        None => String::from_str(alloc, "?"),
+        Some(status) => out.push_natural(u64::from(status.code())),
+        None => out.push('?'),
     }
 }
 
-/// What is printed for a row.
-pub fn answer(alloc: Global, row: &str) -> Result<String, AllocError> {
+/// Puts what is printed for a row.
+pub fn push_answer(alloc: Global, out: &mut Line, row: &str) -> Result<(), AllocError> {
     let (front, fields) = cut(row, '|');
     let (kind, settings) = cut(front, ' ');
     match kind {
-        "calm" => calm(alloc, settings, fields),
-        "fake" => fake(alloc, settings, fields),
-        "turns" => turns(alloc, settings, fields),
-        "left" => left_after(alloc, settings, fields),
-        "singly" => singly(alloc, fields),
-        "cuts" => cuts(alloc, fields),
-        "code" => code(alloc, settings),
-        _ => String::from_str(alloc, "?"),
+        "calm" => push_calm(alloc, out, settings, fields)?,
+        "fake" => push_fake(alloc, out, settings, fields)?,
+        "turns" => push_turns(alloc, out, settings, fields)?,
+        "left" => push_left_after(alloc, out, settings, fields)?,
+        "singly" => push_singles(alloc, out, fields)?,
+        "cuts" => push_cuts(alloc, out, fields)?,
+        "code" => push_code(out, settings),
+        _ => out.push('?'),
     }
+    Ok(())
 }

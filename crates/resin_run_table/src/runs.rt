@@ -1,10 +1,11 @@
 //! Runs of `serve`.
 use crate::keepers::{Keepers, keepers_of, push_seen};
 use crate::settings::{list_of, setting};
-use crate::text::{cut, push_part};
 use resin_base::{Bytes, Sink, Source};
 use resin_memory::{CalmSink, CalmSource, FakeSink, FakeSource};
 use resin_serve::{Ended, Status, serve};
+use resin_table_keepers::push_part;
+use resin_table_rows::{Line, cut};
 use std::alloc::{AllocError, Global};
 
 fn words_of(alloc: Global, text: &str) -> Result<Vec<String>, AllocError> {
@@ -81,34 +82,30 @@ pub fn status_of(word: &str) -> Option<Status> {
 }
 
 /// Adds a status and its exit code.
-pub fn push_status(out: &mut String, status: Status) -> Result<(), AllocError> {
-    let code = status.code();
+pub fn push_status(out: &mut Line, status: Status) {
     match status {
-        Status::Ok => out.push_str("ok")?,
-        Status::Usage => out.push_str("usage")?,
-        Status::BadTrace { offset } => write!(out, "bad trace at {offset}")?,
-        Status::ReadFault => out.push_str("read fault")?,
-        Status::WriteFault => out.push_str("write fault")?,
-        Status::TraceTooLong => out.push_str("trace too long")?,
-        Status::Memory => out.push_str("memory")?,
-        Status::AuditRefused => out.push_str("audit refused")?,
+        Status::Ok => out.push_str("ok"),
+        Status::Usage => out.push_str("usage"),
+        Status::BadTrace { offset } => out.tell("bad trace at ", offset, ""),
+        Status::ReadFault => out.push_str("read fault"),
+        Status::WriteFault => out.push_str("write fault"),
+        Status::TraceTooLong => out.push_str("trace too long"),
+        Status::Memory => out.push_str("memory"),
+        Status::AuditRefused => out.push_str("audit refused"),
     }
-    write!(out, ", code {code}")
+    out.tell(", code ", u64::from(status.code()), "");
 }
 
-// Shows what a run left.
-fn shown(alloc: Global, left: &Left, written: &[u8]) -> Result<String, AllocError> {
-    let mut out = String::new(alloc);
-    push_status(&mut out, left.ended.status)?;
-    let made = left.ended.made;
-    write!(out, " | {made} calls")?;
+// Adds what a run left.
+fn push_left(alloc: Global, out: &mut Line, left: &Left, written: &[u8]) {
+    push_status(out, left.ended.status);
+    out.tell(" | ", left.ended.made, " calls");
     for call in left.ended.failed.as_slice() {
-        write!(out, ", failed {call}")?;
+        out.tell(", failed ", *call, "");
     }
-    push_part(alloc, &mut out, written)?;
-    push_part(alloc, &mut out, left.log.written())?;
-    push_part(alloc, &mut out, left.mail.written())?;
-    Ok(out)
+    push_part(alloc, out, written);
+    push_part(alloc, out, left.log.written());
+    push_part(alloc, out, left.mail.written());
 }
 
 /// Serves a trace that comes without a fault, to an output that has none.
@@ -125,13 +122,30 @@ pub fn calm_run(
     Ok((left, out))
 }
 
-/// Shows a run over a calm outside.
-pub fn calm(alloc: Global, settings: &str, fields: &str) -> Result<String, AllocError> {
+/// Adds a run of a trace over a calm outside.
+pub fn push_run(
+    alloc: Global,
+    out: &mut Line,
+    words: &str,
+    trace: Bytes,
+    fields: &str,
+) -> Result<(), AllocError> {
+    let (left, output) = calm_run(alloc, words, trace, fields)?;
+    push_left(alloc, out, &left, output.written());
+    Ok(())
+}
+
+/// Adds a run over a calm outside, of a trace that may come several times over.
+pub fn push_calm(
+    alloc: Global,
+    out: &mut Line,
+    settings: &str,
+    fields: &str,
+) -> Result<(), AllocError> {
     let (words, rest) = cut(fields, '|');
     let (trace, fields) = cut(rest, '|');
     let trace = repeated(alloc, settings, trace)?;
-    let (left, out) = calm_run(alloc, words, trace, fields)?;
-    shown(alloc, &left, out.written())
+    push_run(alloc, out, words, trace, fields)
 }
 
 // The source that settings tell of.
@@ -181,77 +195,79 @@ fn served_over(
     served(alloc, settings, words, source, out, keepers)
 }
 
-// Shows what a run left, with what fields ask to see.
-fn shown_over(
-    alloc: Global,
-    left: &Left,
-    outside: &Outside,
-    fields: &str,
-) -> Result<String, AllocError> {
-    let mut text = shown(alloc, left, outside.out.written())?;
-    push_seen(alloc, &mut text, &outside.keepers, fields)?;
-    Ok(text)
-}
-
 // Whether no call of the outside failed in a run.
 fn is_whole(left: &Left) -> bool {
     left.ended.status == Status::Ok && left.ended.failed.as_slice().is_empty()
 }
 
-// Serves, shows what is left, and tells whether no call failed.
-fn run_over(
+// Serves, adds what is left with what fields ask to see, and tells whether no call failed.
+fn push_over(
     alloc: Global,
+    out: &mut Line,
     settings: &str,
     words: &str,
     fields: &str,
     outside: &mut Outside,
-) -> Result<(bool, String), AllocError> {
+) -> Result<bool, AllocError> {
     let left = served_over(alloc, settings, words, outside)?;
-    let text = shown_over(alloc, &left, outside, fields)?;
-    Ok((is_whole(&left), text))
+    push_left(alloc, out, &left, outside.out.written());
+    push_seen(alloc, out, &outside.keepers, fields);
+    Ok(is_whole(&left))
 }
 
-// Shows a run over an outside that may fail, and tells whether none of its calls failed.
-fn fake_run(alloc: Global, settings: &str, fields: &str) -> Result<(bool, String), AllocError> {
-    let (words, rest) = cut(fields, '|');
-    let (trace, fields) = cut(rest, '|');
-    let mut outside = outside_of(alloc, settings, trace, fields)?;
-    run_over(alloc, settings, words, fields, &mut outside)
-}
-
-/// Shows a run over an outside that may fail.
-pub fn fake(alloc: Global, settings: &str, fields: &str) -> Result<String, AllocError> {
-    let (_, text) = fake_run(alloc, settings, fields)?;
-    Ok(text)
-}
-
-// Adds a line for the run in which one call fails, and tells whether the run has no such call.
-fn push_turn(
+// Adds a run over an outside that may fail, and tells whether none of its calls failed.
+fn push_fake_run(
     alloc: Global,
-    lines: &mut String,
+    out: &mut Line,
     settings: &str,
     fields: &str,
 ) -> Result<bool, AllocError> {
-    let (whole, text) = fake_run(alloc, settings, fields)?;
-    if !lines.is_empty() {
-        lines.push('\n')?;
-    }
-    lines.push_str(text.as_str())?;
-    Ok(whole)
+    let (words, rest) = cut(fields, '|');
+    let (trace, fields) = cut(rest, '|');
+    let mut outside = outside_of(alloc, settings, trace, fields)?;
+    push_over(alloc, out, settings, words, fields, &mut outside)
 }
 
-/// Shows runs in which each call of one part of the outside fails in turn, and the run in which none does. The word of that part stands before
+/// Adds a run over an outside that may fail.
+pub fn push_fake(
+    alloc: Global,
+    out: &mut Line,
+    settings: &str,
+    fields: &str,
+) -> Result<(), AllocError> {
+    let _whole = push_fake_run(alloc, out, settings, fields)?;
+    Ok(())
+}
+
+// Adds a line for the run in which the call of that number fails, and tells whether the run has no such call.
+fn push_turn(
+    alloc: Global,
+    out: &mut Line,
+    word: &str,
+    number: usize,
+    others: &str,
+    fields: &str,
+) -> Result<bool, AllocError> {
+    let settings = format!(in alloc; "{word} {number} {others}")?;
+    out.begin_line();
+    push_fake_run(alloc, out, settings.as_str(), fields)
+}
+
+/// Adds runs in which each call of one part of the outside fails in turn, and the run in which none does. The word of that part stands before
 /// the other settings.
-pub fn turns(alloc: Global, settings: &str, fields: &str) -> Result<String, AllocError> {
+pub fn push_turns(
+    alloc: Global,
+    out: &mut Line,
+    settings: &str,
+    fields: &str,
+) -> Result<(), AllocError> {
     let (word, others) = cut(settings, ' ');
-    let mut lines = String::new(alloc);
     for number in 1..100usize {
-        let settings = format!(in alloc; "{word} {number} {others}")?;
-        if push_turn(alloc, &mut lines, settings.as_str(), fields)? {
+        if push_turn(alloc, out, word, number, others, fields)? {
             break;
         }
     }
-    Ok(lines)
+    Ok(())
 }
 
 // What a source gives next to a buffer of 65,536 bytes.
@@ -260,31 +276,18 @@ fn next_count(source: &mut FakeSource) -> usize {
     source.take(&mut buffer).unwrap_or(0)
 }
 
-// A status, and how many bytes were left.
-fn shown_left(alloc: Global, status: Status, count: usize) -> Result<String, AllocError> {
-    let mut text = String::new(alloc);
-    push_status(&mut text, status)?;
-    write!(text, " | {count} bytes left")?;
-    Ok(text)
-}
-
-/// Shows the status of a run, and how many bytes the source gives next.
-pub fn left_after(alloc: Global, settings: &str, fields: &str) -> Result<String, AllocError> {
+/// Adds the status of a run, and how many bytes the source gives next.
+pub fn push_left_after(
+    alloc: Global,
+    out: &mut Line,
+    settings: &str,
+    fields: &str,
+) -> Result<(), AllocError> {
     let (words, rest) = cut(fields, '|');
     let (trace, fields) = cut(rest, '|');
     let mut outside = outside_of(alloc, settings, trace, fields)?;
     let left = served_over(alloc, settings, words, &mut outside)?;
-    let count = next_count(&mut outside.source);
-    shown_left(alloc, left.ended.status, count)
-}
-
-/// Shows a run of a trace over a calm outside.
-pub fn shown_run(
-    alloc: Global,
-    words: &str,
-    trace: Bytes,
-    fields: &str,
-) -> Result<String, AllocError> {
-    let (left, out) = calm_run(alloc, words, trace, fields)?;
-    shown(alloc, &left, out.written())
+    push_status(out, left.ended.status);
+    out.tell(" | ", next_count(&mut outside.source) as u64, " bytes left");
+    Ok(())
 }

@@ -1,6 +1,6 @@
 //! Settings: words, each with a number behind it.
-use crate::text::cut;
 use resin_base::FailList;
+use resin_table_rows::cut;
 use std::alloc::{AllocError, Global};
 
 /// The number behind a word among settings. None where the word isn't there.

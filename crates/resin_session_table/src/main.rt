@@ -19,6 +19,7 @@ mod texts;
 use crate::arrays::{array_in, long_array, many, shown_array};
 use crate::texts::{decimal_in, long_text, shown_text, text_in};
 use resin_session::{SessionFault, read_session, write_session};
+use resin_table_rows::print_answers;
 use resin_value::Arr;
 use resin_value::under::lstr::{LText, TextFault};
 use std::alloc::{AllocError, Global};
@@ -80,9 +81,5 @@ fn shown(alloc: Global, line: &[u8]) -> Result<String, AllocError> {
 }
 
 fn main(rt: HostRuntime) -> io::Result<()> {
-    for line in rt.lines(rt.alloc()) {
-        let line = line?;
-        rt.println(shown(rt.alloc(), line.as_bytes())?)?;
-    }
-    Ok(())
+    print_answers(&rt, |alloc, line| shown(alloc, line.as_bytes()))
 }

@@ -27,6 +27,7 @@ mod stop;
 mod values;
 
 use crate::stop::Stop;
+use resin_table_rows::print_answers;
 use std::alloc::{AllocError, Global};
 use std::io;
 
@@ -63,10 +64,5 @@ fn answered(alloc: Global, line: &str) -> Result<String, AllocError> {
 }
 
 fn main(rt: HostRuntime) -> io::Result<()> {
-    for line in rt.lines(rt.alloc()) {
-        let line = line?;
-        let text = answered(rt.alloc(), line.as_str())?;
-        rt.println(text)?;
-    }
-    Ok(())
+    print_answers(&rt, answered)
 }

@@ -1,18 +1,10 @@
 //! The values of a total's items.
 
-use resin_base::{Bytes, Cell, Stored};
+use resin_base::{Cell, Stored};
 use resin_sql_more::{MoreAnswer, TotalFault, TotalItem, item_name, item_value};
 use resin_table_rows::Line;
-use resin_table_sql::push_cell;
+use resin_table_sql::{copied, push_cell};
 use std::alloc::{AllocError, Global};
-
-fn copied(alloc: Global, cell: &Cell) -> Result<Cell, AllocError> {
-    match cell {
-        Cell::Null => Ok(Cell::Null),
-        Cell::Int(n) => Ok(Cell::Int(*n)),
-        Cell::Text(text) => Ok(Cell::Text(Bytes::from_slice(alloc, text.as_slice())?)),
-    }
-}
 
 /// The values of a row, if none is NULL.
 fn values_of(alloc: Global, row: &Stored) -> Result<Option<Vec<Cell>>, AllocError> {

@@ -22,7 +22,7 @@ use resin_lstr::LText;
 use resin_sql_more::under::sql::SqlFault;
 use resin_sql_more::under::sql::parts::where_literals;
 use resin_sql_more::{JoinStmt, MoreStmt, TotalStmt, exec_join, exec_total, read_more};
-use resin_table_rows::Line;
+use resin_table_rows::{Line, print_answers};
 use resin_table_sql::{plain_text, push_calls, stored_of};
 use std::alloc::{AllocError, Global};
 use std::io;
@@ -111,10 +111,5 @@ fn run(alloc: Global, line: &str) -> Result<String, AllocError> {
 }
 
 fn main(rt: HostRuntime) -> io::Result<()> {
-    for line in rt.lines(rt.alloc()) {
-        let line = line?;
-        let text = run(rt.alloc(), line.as_str())?;
-        rt.println(text)?;
-    }
-    Ok(())
+    print_answers(&rt, run)
 }

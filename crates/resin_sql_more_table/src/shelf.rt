@@ -1,7 +1,9 @@
 //! Tables in memory as a line sets them.
 
-use resin_base::{Bytes, Calls, Cell, Cells, Column, Columns, FailList, Kind, Tables};
+use resin_base::{Bytes, Calls, Cells, Column, Columns, FailList, Kind, Tables};
 use resin_memory::FakeTables;
+use resin_table_keepers::fails_in;
+use resin_table_sql::cell_in;
 use std::alloc::{AllocError, Global};
 
 /// Tables, the numbered calls on them, and the ticks that are left.
@@ -10,17 +12,6 @@ pub(crate) struct Shelf {
     pub(crate) left: u64,
     pub(crate) tables: FakeTables,
     pub(crate) calls: Calls,
-}
-
-/// A cell as a row of the input has it.
-fn cell_of(alloc: Global, word: &str) -> Result<Cell, AllocError> {
-    if let Some(text) = word.strip_prefix('\'') {
-        return Ok(Cell::Text(Bytes::from_slice(alloc, text.as_bytes())?));
-    }
-    match word.parse::<i64>() {
-        Ok(n) => Ok(Cell::Int(n)),
-        Err(_) => Ok(Cell::Null),
-    }
 }
 
 /// A column as a table of the input has it.
@@ -72,7 +63,7 @@ fn add_row(
 ) -> Result<(), AllocError> {
     let mut cells = Cells::new(alloc);
     for word in words.split(' ') {
-        cells.push(cell_of(alloc, word)?)?;
+        cells.push(cell_in(alloc, word)?)?;
     }
     let _number = tables.insert(table, &cells).unwrap_or(None);
     Ok(())
@@ -91,16 +82,12 @@ fn count_settings(line: &str) -> u64 {
 
 /// The calls that fail, counted with those that set the tables.
 fn failing(alloc: Global, line: &str) -> Result<FailList, AllocError> {
-    let before = count_settings(line);
-    let mut fail = FailList::new(alloc);
     for field in line.split('|') {
         if let Some(numbers) = field.strip_prefix("fail ") {
-            for word in numbers.split(' ') {
-                fail.push(word.parse::<u64>().unwrap_or(0).saturating_add(before))?;
-            }
+            return fails_in(alloc, numbers, count_settings(line));
         }
     }
-    Ok(fail)
+    Ok(FailList::new(alloc))
 }
 
 /// The number of a field of this name, or another.

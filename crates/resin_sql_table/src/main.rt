@@ -7,10 +7,8 @@
 use resin_base::{Kind, Names};
 use resin_items::Items;
 use resin_sql::{Change, Create, Delete, Insert, Literal, Order, Select, Stmt, Update, read_sql};
-use resin_table_rows::Line;
-use resin_table_sql::{Printer, push_fault, push_limit, push_text_fault};
-use resin_table_values::marked_in;
-use std::alloc::{AllocError, Global};
+use resin_table_rows::{Line, print_answers};
+use resin_table_sql::{Printer, answered, push_fault, push_limit};
 use std::io;
 
 fn push_names(out: &mut Line, names: &Option<Names>) {
@@ -116,19 +114,6 @@ fn push_answer(out: &mut Line, printer: Printer<'_>) {
     }
 }
 
-fn shown(alloc: Global, line: &str) -> Result<String, AllocError> {
-    let mut out = Line::new(alloc);
-    match marked_in(alloc, line) {
-        Ok(text) => push_answer(&mut out, Printer { alloc, text: &text }),
-        Err(fault) => push_text_fault(&mut out, fault),
-    }
-    out.end()
-}
-
 fn main(rt: HostRuntime) -> io::Result<()> {
-    for line in rt.lines(rt.alloc()) {
-        let line = line?;
-        rt.println(shown(rt.alloc(), line.as_str())?)?;
-    }
-    Ok(())
+    print_answers(&rt, |alloc, line| answered(alloc, line, push_answer))
 }

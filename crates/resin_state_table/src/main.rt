@@ -23,9 +23,8 @@ use resin_heap::{Classes, Heap};
 use resin_stage::Stage;
 use resin_stage::under::journal::Journal;
 use resin_stage::under::scope::{Chains, Page, Scopes};
-use resin_table_rows::{Line, Row, split_row};
+use resin_table_rows::{Line, Row, answered_row};
 use std::alloc::{AllocError, Global};
-use std::cell::Cell;
 use std::io;
 
 /// What the acts act on.
@@ -89,49 +88,23 @@ fn act(state: &mut State, row: Row<'_>, out: &mut Line) {
     }
 }
 
-/// Acts on the state, and puts the answer behind the act.
-fn push_act(
-    alloc: Global,
-    state: &mut State,
-    line: &str,
-    out: &mut Line,
-) -> Result<(), AllocError> {
-    let fields = split_row(alloc, line)?;
-    let is_unreadable = Cell::new(false);
-    act(
-        state,
-        Row {
-            alloc,
-            fields: &fields,
-            is_unreadable: &is_unreadable,
-        },
-        out,
-    );
-    if is_unreadable.get() {
-        out.push_word("unreadable");
-    }
+fn begin(alloc: Global, state: &mut State, line: &str) -> Result<(), AllocError> {
+    *state = begun(alloc, line)?;
     Ok(())
 }
 
 /// Begins a new state, or acts on the one that is there.
-fn take(alloc: Global, state: &mut State, line: &str, out: &mut Line) -> Result<(), AllocError> {
+fn take(state: &mut State, line: &str, row: Row<'_>, out: &mut Line) {
     if is_kind(line) {
-        *state = begun(alloc, line)?;
-        Ok(())
+        out.note(begin(row.alloc, state, line));
     } else {
-        push_act(alloc, state, line, out)
+        act(state, row, out);
     }
 }
 
 /// The line with its answer.
 fn answered(alloc: Global, state: &mut State, line: &str) -> Result<String, AllocError> {
-    let mut out = Line::new(alloc);
-    out.push_str(line);
-    if !line.starts_with('#') {
-        let done = take(alloc, state, line, &mut out);
-        out.note(done);
-    }
-    out.end()
+    answered_row(alloc, line, |row, out| take(state, line, row, out))
 }
 
 fn main(rt: HostRuntime) -> io::Result<()> {

@@ -6,9 +6,11 @@
 #![tactic(auto)]
 
 mod line;
+mod printing;
 mod row;
 mod spelling;
 
 pub use line::Line;
+pub use printing::{answered_row, print_answers};
 pub use row::{Row, cut, split_row};
 pub use spelling::{Repeat, bytes_in, push_bytes, repeat_in, spelled};

@@ -46,6 +46,13 @@ impl Line {
         }
     }
 
+    /// Begins a further line, where something stands already.
+    pub fn begin_line(&mut self) {
+        if !self.text.is_empty() {
+            self.push('\n');
+        }
+    }
+
     /// Puts a text last.
     pub fn push_str(&mut self, text: &str) {
         let done = self.text.push_str(text);

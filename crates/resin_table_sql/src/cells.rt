@@ -18,6 +18,26 @@ fn text_cell(alloc: Global, bytes: &[u8]) -> Result<Cell, AllocError> {
     Ok(Cell::Text(Bytes::from_slice(alloc, bytes)?))
 }
 
+/// The cell that a word spells: an integer, a text behind `'`, or else NULL.
+pub fn cell_in(alloc: Global, word: &str) -> Result<Cell, AllocError> {
+    if let Some(text) = word.strip_prefix('\'') {
+        return text_cell(alloc, text.as_bytes());
+    }
+    match word.parse::<i64>() {
+        Ok(n) => Ok(Cell::Int(n)),
+        Err(_) => Ok(Cell::Null),
+    }
+}
+
+/// A copy of a cell.
+pub fn copied(alloc: Global, cell: &Cell) -> Result<Cell, AllocError> {
+    match cell {
+        Cell::Null => Ok(Cell::Null),
+        Cell::Int(n) => Ok(Cell::Int(*n)),
+        Cell::Text(text) => text_cell(alloc, text.as_slice()),
+    }
+}
+
 // What a literal of a text stands for.
 fn value_of(alloc: Global, text: &LText, literal: Literal) -> Result<Cell, AllocError> {
     match literal {

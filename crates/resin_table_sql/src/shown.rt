@@ -3,7 +3,7 @@
 use resin_lstr::{LText, TextFault};
 use resin_sql::{Comparison, Condition, Literal, SqlFault, Test, literal_text};
 use resin_table_rows::Line;
-use resin_table_values::push_marked;
+use resin_table_values::{marked_in, push_marked};
 use std::alloc::{AllocError, Global};
 
 /// Prints trees whose literals stand in a text.
@@ -105,10 +105,26 @@ pub fn push_fault(out: &mut Line, fault: SqlFault) {
     }
 }
 
-/// Puts last why a row spells no text.
-pub fn push_text_fault(out: &mut Line, fault: TextFault) {
+// Puts last why a row spells no text.
+fn push_text_fault(out: &mut Line, fault: TextFault) {
     match fault {
         TextFault::TooLong => out.push_str("too long"),
         TextFault::Memory => out.note(Err(AllocError)),
     }
+}
+
+/// The line of a row whose field spells a labelled text: what is put there of a printer of that text, or why there is no text.
+pub fn answered<A: FnOnce(&mut Line, Printer<'_>)>(
+    alloc: Global,
+    field: &str,
+    push_answer: A,
+) -> Result<String, AllocError>
+    requires { A.IsAlwaysCallable push_answer }
+{
+    let mut out = Line::new(alloc);
+    match marked_in(alloc, field) {
+        Ok(text) => push_answer(&mut out, Printer { alloc, text: &text }),
+        Err(fault) => push_text_fault(&mut out, fault),
+    }
+    out.end()
 }
