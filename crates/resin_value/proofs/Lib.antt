@@ -1,6 +1,6 @@
 pub mod Pairs
 pub mod Keeps
-pub mod Places
+pub mod Numbered
 pub mod Compared
 pub mod LawLemmas
 -- Passed on to the crates above, which list this one alone.

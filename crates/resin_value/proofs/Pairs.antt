@@ -1,4 +1,4 @@
--- Keys and values at the same places, as the entries that they make.
+-- Entries in memory, as the pairs that they are seen as.
 use Rattle.std.proofs.Common.{◌≡◌, ℕ, ◌<◌, ◌≤◌, zero, suc, Bool, true, false, cond, if◌then◌else◌, ltb, ◌||◌, List, [], ◌∷◌, ◌++◌, refl, sym, ap, ◌∙◌, arith, length, get_or, set, remove, slice_get, Option, Some, None, Result, Ok, Err, OnOk}
 use Rattle.std.specs.Prelude.{is_some}
 use Rattle.std.specs.Option.{option_map}
@@ -7,9 +7,10 @@ use Rattle.std.proofs.lemmas.List.Recursion.{is_position_or_len}
 use Rattle.std.proofs.lemmas.Bool.{true≢false}
 use Rattle.std.proofs.lemmas.Bool.Decides.{nat_tests}
 use Rattle.resin_value.specs.declared.key.Key.{Key}
+use Rattle.resin_value.specs.declared.value.Entry.{Entry}
 use Rattle.resin_value.specs.declared.value.Value.{Value}
 use Rattle.resin_value.specs.Keys.{key_eq}
-use Rattle.resin_value.specs.Seen.{tree_of, paired}
+use Rattle.resin_value.specs.Seen.{tree_of, pair_of, pairs_of, keys_of}
 use Rattle.resin_value.specs.Changes.{lookup, put_at, remove_at}
 
 -- the place of a key, the length where it isn't there
@@ -47,40 +48,36 @@ past_place k ks e =
     grind (arith, nat_tests)
 
 module _ (k : Key) where
-  pub lookup_there : (ks : List Key) (vs : List Value) (d : Value) → length ks ≡ length vs → place k ks < length ks → lookup k (paired ks vs) ≡ Some (tree_of (get_or vs (place k ks) d))
-  lookup_there [] vs d same h = absurd (omega arith)
-  lookup_there (j ∷ ks) [] d same h = absurd (omega arith)
-  lookup_there (j ∷ ks) (v ∷ vs) d same h =
-      elim (key_eq k j) as (λ b. cond b 0 (suc (place k ks)) < length (j ∷ ks) → (if b then Some (tree_of v) else lookup k (paired ks vs)) ≡ Some (tree_of (get_or (v ∷ vs) (cond b 0 (suc (place k ks))) d))) [
+  pub lookup_there : (es : List Entry) (d : Entry) → place k (keys_of es) < length es → lookup k (pairs_of es) ≡ Some (tree_of (get_or es (place k (keys_of es)) d).value)
+  lookup_there [] d h = absurd (omega arith)
+  lookup_there (e ∷ es) d h =
+      elim (key_eq k e.key) as (λ b. cond b 0 (suc (place k (keys_of es))) < length (e ∷ es) → (if b then Some (tree_of e.value) else lookup k (pairs_of es)) ≡ Some (tree_of (get_or (e ∷ es) (cond b 0 (suc (place k (keys_of es)))) d).value)) [
         | true ↦ λ _. refl
-        | false ↦ λ lt. lookup_there ks vs d (omega arith) (omega arith)
+        | false ↦ λ lt. lookup_there es d (omega arith)
       ] h
 
-  pub lookup_past : (ks : List Key) (vs : List Value) → length ks ≤ place k ks → lookup k (paired ks vs) ≡ None
-  lookup_past [] vs h = refl
-  lookup_past (j ∷ ks) [] h = refl
-  lookup_past (j ∷ ks) (v ∷ vs) h =
-      elim (key_eq k j) as (λ b. length (j ∷ ks) ≤ cond b 0 (suc (place k ks)) → (if b then Some (tree_of v) else lookup k (paired ks vs)) ≡ None) [
+  pub lookup_past : (es : List Entry) → length es ≤ place k (keys_of es) → lookup k (pairs_of es) ≡ None
+  lookup_past [] h = refl
+  lookup_past (e ∷ es) h =
+      elim (key_eq k e.key) as (λ b. length (e ∷ es) ≤ cond b 0 (suc (place k (keys_of es))) → (if b then Some (tree_of e.value) else lookup k (pairs_of es)) ≡ None) [
         | true ↦ λ le. absurd (omega arith)
-        | false ↦ λ le. lookup_past ks vs (omega arith)
+        | false ↦ λ le. lookup_past es (omega arith)
       ] h
 
-  pub put_there : (w : Value) (ks : List Key) (vs : List Value) → length ks ≡ length vs → place k ks < length ks → paired ks (set vs (place k ks) w) ≡ put_at k (tree_of w) (paired ks vs)
-  put_there w [] vs same h = absurd (omega arith)
-  put_there w (j ∷ ks) [] same h = absurd (omega arith)
-  put_there w (j ∷ ks) (v ∷ vs) same h =
-      elim (key_eq k j) as (λ b. cond b 0 (suc (place k ks)) < length (j ∷ ks) → paired (j ∷ ks) (set (v ∷ vs) (cond b 0 (suc (place k ks))) w) ≡ (if b then (j, tree_of w) ∷ paired ks vs else (j, tree_of v) ∷ put_at k (tree_of w) (paired ks vs))) [
-        | true ↦ λ _. refl
-        | false ↦ λ lt. ap (λ es. (j, tree_of v) ∷ es) (put_there w ks vs (omega arith) (omega arith))
-      ] h
+  pub put_there : (w : Value) (es : List Entry) (d : Entry) → d ≡ get_or es (place k (keys_of es)) d → place k (keys_of es) < length es → pairs_of (set es (place k (keys_of es)) (record { key = d.key; value = w })) ≡ put_at k (tree_of w) (pairs_of es)
+  put_there w [] d is h = absurd (omega arith)
+  put_there w (e ∷ es) d is h =
+      elim (key_eq k e.key) as (λ b. d ≡ get_or (e ∷ es) (cond b 0 (suc (place k (keys_of es)))) d → cond b 0 (suc (place k (keys_of es))) < length (e ∷ es) → pairs_of (set (e ∷ es) (cond b 0 (suc (place k (keys_of es)))) (record { key = d.key; value = w })) ≡ (if b then (e.key, tree_of w) ∷ pairs_of es else pair_of e ∷ put_at k (tree_of w) (pairs_of es))) [
+        | true ↦ λ same _. ap (λ x. (x.key, tree_of w) ∷ pairs_of es) same
+        | false ↦ λ same lt. ap (λ zs. pair_of e ∷ zs) (put_there w es d same (omega arith))
+      ] is h
 
-  pub remove_there : (ks : List Key) (vs : List Value) → length ks ≡ length vs → place k ks < length ks → paired (remove ks (place k ks)) (remove vs (place k ks)) ≡ remove_at k (paired ks vs)
-  remove_there [] vs same h = absurd (omega arith)
-  remove_there (j ∷ ks) [] same h = absurd (omega arith)
-  remove_there (j ∷ ks) (v ∷ vs) same h =
-      elim (key_eq k j) as (λ b. cond b 0 (suc (place k ks)) < length (j ∷ ks) → paired (remove (j ∷ ks) (cond b 0 (suc (place k ks)))) (remove (v ∷ vs) (cond b 0 (suc (place k ks)))) ≡ (if b then paired ks vs else (j, tree_of v) ∷ remove_at k (paired ks vs))) [
+  pub remove_there : (es : List Entry) → place k (keys_of es) < length es → pairs_of (remove es (place k (keys_of es))) ≡ remove_at k (pairs_of es)
+  remove_there [] h = absurd (omega arith)
+  remove_there (e ∷ es) h =
+      elim (key_eq k e.key) as (λ b. cond b 0 (suc (place k (keys_of es))) < length (e ∷ es) → pairs_of (remove (e ∷ es) (cond b 0 (suc (place k (keys_of es))))) ≡ (if b then pairs_of es else pair_of e ∷ remove_at k (pairs_of es))) [
         | true ↦ λ _. refl
-        | false ↦ λ lt. ap (λ es. (j, tree_of v) ∷ es) (remove_there ks vs (omega arith) (omega arith))
+        | false ↦ λ lt. ap (λ zs. pair_of e ∷ zs) (remove_there es (omega arith))
       ] h
 
   pub put_last : {X : Type 0} (x : X) (es : List (Key × X)) → lookup k es ≡ None → put_at k x es ≡ es ++ (k, x) ∷ []
@@ -99,33 +96,54 @@ module _ (k : Key) where
         | false ↦ λ n. ap (λ zs. e ∷ zs) (remove_absent es n)
       ] h
 
-  -- a key without a value is new to the list of keys
-  pub absent_key : (ks : List Key) (vs : List Value) → length ks ≡ length vs → lookup k (paired ks vs) ≡ None → list_any (key_eq k) ks ≡ false
-  absent_key [] vs same h = refl
-  absent_key (j ∷ ks) [] same h = absurd (omega arith)
-  absent_key (j ∷ ks) (v ∷ vs) same h =
-      elim (key_eq k j) as (λ b. (if b then Some (tree_of v) else lookup k (paired ks vs)) ≡ None → (b || list_any (key_eq k) ks) ≡ false) [
+  -- a key without a value is new to the keys
+  pub absent_key : (es : List Entry) → lookup k (pairs_of es) ≡ None → list_any (key_eq k) (keys_of es) ≡ false
+  absent_key [] h = refl
+  absent_key (e ∷ es) h =
+      elim (key_eq k e.key) as (λ b. (if b then Some (tree_of e.value) else lookup k (pairs_of es)) ≡ None → (b || list_any (key_eq k) (keys_of es)) ≡ false) [
         | true ↦ λ n. absurd (true≢false (ap is_some n))
-        | false ↦ λ n. absent_key ks vs (omega arith) n
+        | false ↦ λ n. absent_key es n
       ] h
 
-  pub paired_push : (w : Value) (ks : List Key) (vs : List Value) → length ks ≡ length vs → paired (ks ++ k ∷ []) (vs ++ w ∷ []) ≡ paired ks vs ++ (k, tree_of w) ∷ []
-  paired_push w [] [] same = refl
-  paired_push w [] (v ∷ vs) same = absurd (omega arith)
-  paired_push w (j ∷ ks) [] same = absurd (omega arith)
-  paired_push w (j ∷ ks) (v ∷ vs) same = ap (λ es. (j, tree_of v) ∷ es) (paired_push w ks vs (omega arith))
+-- ---- keys and pairs of changed lists
+pub length-keys : (es : List Entry) → length (keys_of es) ≡ length es
+length-keys [] = refl
+length-keys (e ∷ es) = ap suc (length-keys es)
 
-pub length-paired : (ks : List Key) (vs : List Value) → length ks ≡ length vs → length (paired ks vs) ≡ length vs
-length-paired [] [] same = refl
-length-paired [] (v ∷ vs) same = absurd (omega arith)
-length-paired (j ∷ ks) [] same = absurd (omega arith)
-length-paired (j ∷ ks) (v ∷ vs) same = let h = length-paired ks vs (omega arith) in omega (arith, h)
+pub length-pairs : (es : List Entry) → length (pairs_of es) ≡ length es
+length-pairs [] = refl
+length-pairs (e ∷ es) = ap suc (length-pairs es)
 
-pub paired_at : (ks : List Key) (vs : List Value) (i : ℕ) (k : Key) (v : Value) → length ks ≡ length vs → slice_get ks i ≡ Some k → v ≡ get_or vs i v → slice_get (paired ks vs) i ≡ Some (k, tree_of v)
-paired_at [] vs i k v same h g = absurd (true≢false (sym (ap is_some h)))
-paired_at (j ∷ ks) [] i k v same h g = absurd (omega arith)
-paired_at (j ∷ ks) (u ∷ vs) zero k v same h g = let e : j ≡ k = cc in λ i. Some (e i, tree_of (sym g i))
-paired_at (j ∷ ks) (u ∷ vs) (suc i) k v same h g = paired_at ks vs i k v (omega arith) h g
+pub pairs_push : (e : Entry) (es : List Entry) → pairs_of (es ++ e ∷ []) ≡ pairs_of es ++ pair_of e ∷ []
+pairs_push e [] = refl
+pairs_push e (d ∷ es) = ap (λ zs. pair_of d ∷ zs) (pairs_push e es)
+
+pub keys_push : (e : Entry) (es : List Entry) → keys_of (es ++ e ∷ []) ≡ keys_of es ++ e.key ∷ []
+keys_push e [] = refl
+keys_push e (d ∷ es) = ap (λ zs. d.key ∷ zs) (keys_push e es)
+
+pub keys_remove : (es : List Entry) (i : ℕ) → keys_of (remove es i) ≡ remove (keys_of es) i
+keys_remove [] zero = refl
+keys_remove [] (suc i) = refl
+keys_remove (e ∷ es) zero = refl
+keys_remove (e ∷ es) (suc i) = ap (λ zs. e.key ∷ zs) (keys_remove es i)
+
+-- keys stay where a value is written
+pub keys_set : (es : List Entry) (i : ℕ) (d : Entry) (w : Value) → d ≡ get_or es i d → keys_of (set es i (record { key = d.key; value = w })) ≡ keys_of es
+keys_set [] zero d w is = refl
+keys_set [] (suc i) d w is = refl
+keys_set (e ∷ es) zero d w is = ap (λ x. x.key ∷ keys_of es) is
+keys_set (e ∷ es) (suc i) d w is = ap (λ zs. e.key ∷ zs) (keys_set es i d w is)
+
+pub pair_at : (es : List Entry) (i : ℕ) (e : Entry) → i < length es → e ≡ get_or es i e → slice_get (pairs_of es) i ≡ Some (pair_of e)
+pair_at [] i e h is = absurd (omega arith)
+pair_at (d ∷ es) zero e h is = ap (λ x. Some (pair_of x)) (sym is)
+pair_at (d ∷ es) (suc i) e h is = pair_at es i e (omega arith) is
+
+pub key_at : (es : List Entry) (i : ℕ) (e : Entry) → i < length es → e ≡ get_or es i e → slice_get (keys_of es) i ≡ Some e.key
+key_at [] i e h is = absurd (omega arith)
+key_at (d ∷ es) zero e h is = ap (λ x. Some x.key) (sym is)
+key_at (d ∷ es) (suc i) e h is = key_at es i e (omega arith) is
 
 -- what follows from a call that succeeded
 pub on_ok : {T E P Q : Type 0} (r : Result T E) → (P → Q) → OnOk r P → OnOk r Q
@@ -136,9 +154,3 @@ on_ok (Err e) f p = tt
 pub looked_up_none : {X Y : Type 0} (f : X → Y) (r : Option X) (o : Option Y) → option_map f r ≡ o → is_some r ≡ false → o ≡ None
 looked_up_none f None o e n = sym e
 looked_up_none f (Some x) o e n = absurd (true≢false n)
-
-pub paired_key : (ks : List Key) (vs : List Value) (i : ℕ) (k : Key) (d : Value) → length ks ≡ length vs → slice_get ks i ≡ Some k → slice_get (paired ks vs) i ≡ Some (k, tree_of (get_or vs i d))
-paired_key [] vs i k d same h = absurd (true≢false (sym (ap is_some h)))
-paired_key (j ∷ ks) [] i k d same h = absurd (omega arith)
-paired_key (j ∷ ks) (u ∷ vs) zero k d same h = let e : j ≡ k = cc in λ i. Some (e i, tree_of u)
-paired_key (j ∷ ks) (u ∷ vs) (suc i) k d same h = paired_key ks vs i k d (omega arith) h

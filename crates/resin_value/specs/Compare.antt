@@ -4,7 +4,8 @@ use Rattle.std.specs.Prelude.{ℕ, Bool, true, false, not, ◌==◌, ◌||◌, i
 use Rattle.std.specs.Ordering.{int_eq, bool_cmp, is_eq}
 use Rattle.std.specs.declared.cmp.Ordering.{Ordering}
 use Rattle.std.specs.declared.cmp.Ordering.TheVariants.{Equal}
-use Rattle.resin_scalar.specs.Scalars.{Plain, null as plain_null, boolean as plain_boolean, integer as plain_integer, text as plain_text, same_bytes, truth_of, order_of}
+use Rattle.resin_scalar.specs.Scalars.{Plain, null as plain_null, boolean as plain_boolean}
+use Rattle.resin_scalar.specs.Scalars.{integer as plain_integer, text as plain_text, same_bytes, truth_of, order_of}
 use Rattle.resin_scalar.specs.declared.scalar.NumFault.{NumFault}
 use Rattle.resin_scalar.specs.declared.ticks.Spent.{Spent}
 use Rattle.resin_lstr.specs.Texts.{bytes_of}
@@ -120,4 +121,5 @@ abbrev mutual
   identical_rows no_entry s n = (Ok true, n)
   identical_rows (entry k t r) s zero = (Err spent, 0)
   identical_rows (entry k t r) no_entry (suc n) = (Ok false, n)
-  identical_rows (entry k t r) (entry j u s) (suc n) = and_then (if key_eq k j then identical_trees t u n else (Ok false, n)) (λ m. identical_rows r s m)
+  identical_rows (entry k t r) (entry j u s) (suc n) =
+      and_then (if key_eq k j then identical_trees t u n else (Ok false, n)) (λ m. identical_rows r s m)

@@ -27,7 +27,9 @@ RemovesOneKey = (j k : Key) (es : EntryList) → j ≢ k → lookup j (remove_at
 
 -- what is appended stands last, at the next key
 abbrev pub AppendsLast : Type 0
-AppendsLast = (t : Tree) (a : Array) (n : ℤ) → IsArray a → next_of a.largest ≡ Some n → (b : Array) → appended t a ≡ Some b → b.entries ≡ a.entries ++ (Int n, t) ∷ []
+AppendsLast =
+    (t : Tree) (a : Array) (n : ℤ) → IsArray a → next_of a.largest ≡ Some n → (b : Array) → appended t a ≡ Some b
+    → b.entries ≡ a.entries ++ (Int n, t) ∷ []
 
 -- a value without its labels
 abbrev mutual

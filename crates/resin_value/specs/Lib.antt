@@ -4,7 +4,7 @@ pub use Rattle.resin_value.specs.Keys.{key_eq, is_lawful, text_key}
 pub mod Arrays
 pub use Rattle.resin_value.specs.Arrays.{EntryList, entries_code, Array, array_code, entries_size, array_size}
 pub mod Seen
-pub use Rattle.resin_value.specs.Seen.{tree_of, paired, seen}
+pub use Rattle.resin_value.specs.Seen.{tree_of, pairs_of, seen}
 pub mod Falls
 pub use Rattle.resin_value.specs.Falls.{falls}
 pub mod Changes

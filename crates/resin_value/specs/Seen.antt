@@ -1,8 +1,8 @@
 -- What values and arrays in memory are seen as.
 use Rattle.std.specs.Prelude.{List, map}
-use Rattle.std.specs.List.{zip}
 use Rattle.resin_value.specs.declared.key.Key.{Key}
 use Rattle.resin_value.specs.declared.value.Body.{Body}
+use Rattle.resin_value.specs.declared.value.Entry.{Entry}
 use Rattle.resin_value.specs.declared.value.Value.{Value}
 use Rattle.resin_value.specs.declared.value.Value.TheVariants.{Null, Bool, Int, Text, Arr, Obj}
 use Rattle.resin_value.specs.Trees.{Tree, null, boolean, integer, text, array, object}
@@ -19,9 +19,15 @@ tree_of (Obj n) = object n
 abbrev pub trees_of : List Value → List Tree
 trees_of vs = map tree_of vs
 
--- the entries that keys and values at the same places make
-abbrev pub paired : List Key → List Value → EntryList
-paired ks vs = zip ks (trees_of vs)
+-- a key with the value at it
+abbrev pub pair_of : Entry → Key × Tree
+pair_of e = (e.key, tree_of e.value)
+
+abbrev pub pairs_of : List Entry → EntryList
+pairs_of es = map pair_of es
+
+abbrev pub keys_of : List Entry → List Key
+keys_of es = map (λ e. e.key) es
 
 -- what the body of an array is seen as
 abbrev pub seen : Body → Array

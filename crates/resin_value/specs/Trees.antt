@@ -69,15 +69,20 @@ mutual
   pub tree_inj : (x y : Tree) → tree_gv x ≡ tree_gv y → x ≡ y
   tree_inj null null e = refl
   tree_inj (boolean a) (boolean b) e = ap boolean (coded_bool.inj a b (ap rest e))
-  tree_inj (integer m s) (integer n t) e = λ i. integer (coded_ℤ.inj m n (ap (λ g. first (rest g)) e) i) (set_code.inj s t (ap (λ g. rest (rest g)) e) i)
+  tree_inj (integer m s) (integer n t) e = λ i.
+      integer (coded_ℤ.inj m n (ap (λ g. first (rest g)) e) i) (set_code.inj s t (ap (λ g. rest (rest g)) e) i)
   tree_inj (text s) (text t) e = ap text (text_code.inj s t (ap rest e))
-  tree_inj (array r l h) (array s m k) e = λ i. array (row_inj r s (ap (λ g. first (rest g)) e) i) ((coded_option coded_ℤ).inj l m (ap (λ g. first (rest (rest g))) e) i) (coded_ℕ.inj h k (ap (λ g. rest (rest (rest g))) e) i)
+  tree_inj (array r l h) (array s m k) e = λ i.
+      array (row_inj r s (ap (λ g. first (rest g)) e) i) ((coded_option coded_ℤ).inj l m (ap (λ g. first (rest (rest g))) e) i)
+      (coded_ℕ.inj h k (ap (λ g. rest (rest (rest g))) e) i)
   tree_inj (object m) (object n) e = ap object (coded_ℕ.inj m n (ap rest e))
   tree_inj x y e = absurd (let f : tag (tree_gv x) ≡ tag (tree_gv y) = ap tag e in omega arith)
 
   pub row_inj : (r s : Row) → row_gv r ≡ row_gv s → r ≡ s
   row_inj no_entry no_entry e = refl
-  row_inj (entry p t r) (entry q u s) e = λ i. entry (key_inj p q (ap (λ g. first (rest g)) e) i) (tree_inj t u (ap (λ g. first (rest (rest g))) e) i) (row_inj r s (ap (λ g. rest (rest (rest g))) e) i)
+  row_inj (entry p t r) (entry q u s) e = λ i.
+      entry (key_inj p q (ap (λ g. first (rest g)) e) i) (tree_inj t u (ap (λ g. first (rest (rest g))) e) i)
+      (row_inj r s (ap (λ g. rest (rest (rest g))) e) i)
   row_inj no_entry (entry q u s) e = absurd (let f : 0 ≡ 1 = ap tag e in omega arith)
   row_inj (entry p t r) no_entry e = absurd (let f : 1 ≡ 0 = ap tag e in omega arith)
 

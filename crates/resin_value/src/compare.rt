@@ -61,12 +61,14 @@ fn identical_entries(x: &Entries, y: &Entries, t: &mut Ticks) -> Result<bool, Sp
     ensures answer { result ≡ (identical_rows (row_of x.now) (row_of y.now) t.old.left).0 }
     ensures charged { t.new.left ≡ (identical_rows (row_of x.now) (row_of y.now) t.old.left).1 }
 {
-    for (i, v) in x.values.iter().enumerate() {
+    for i in 0..x.list.len() {
         t.spend(1)?;
-        if !x.keys[i].same(&y.keys[i]) {
+        let a = &x.list[i];
+        let b = &y.list[i];
+        if !a.key.same(&b.key) {
             return Ok(false);
         }
-        if !identical(v, &y.values[i], t)? {
+        if !identical(&a.value, &b.value, t)? {
             return Ok(false);
         }
     }
@@ -98,12 +100,13 @@ fn equal_entries(x: &Entries, y: &Entries, t: &mut Ticks) -> Result<bool, Compar
     ensures answer { result ≡ (equal_rows (row_of x.now) y.now t.old.left).0 }
     ensures charged { t.new.left ≡ (equal_rows (row_of x.now) y.now t.old.left).1 }
 {
-    for (i, v) in x.values.iter().enumerate() {
+    for i in 0..x.list.len() {
         t.spend(1)?;
-        let Some(w) = y.get(&x.keys[i]) else {
+        let a = &x.list[i];
+        let Some(w) = y.get(&a.key) else {
             return Ok(false);
         };
-        if !equal(v, w, t)? {
+        if !equal(&a.value, w, t)? {
             return Ok(false);
         }
     }

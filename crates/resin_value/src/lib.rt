@@ -16,9 +16,9 @@
 
 mod compare;
 mod key;
-mod keys;
 mod laws;
 mod lists;
+mod places;
 pub mod under;
 mod value;
 

@@ -1,17 +1,20 @@
 //! Values, and arrays as they are kept.
-ghost use Rattle.std.specs.Prelude.{vec_len, remove, ◌≡◌, ◌≢◌, ◌<◌, ◌≤◌, ◌↔◌, ◌++◌, ◌∷◌, [], length, slice_get, Some, None, OnOk, OnErr, IfOk, IfSome, IsTrue, IsSome, is_some, Err};
+ghost use Rattle.std.specs.Prelude.{remove, ◌≡◌, ◌≢◌, ◌<◌, ◌≤◌, ◌↔◌, ◌++◌, ◌∷◌, [], length, slice_get};
+ghost use Rattle.std.specs.Prelude.{Some, None, OnOk, OnErr, IfOk, IfSome, IsTrue, IsSome, is_some, Err};
 ghost use Rattle.std.specs.Option.{option_map};
+ghost use Rattle.std.specs.VecDeque.{deque_len};
 ghost use Rattle.resin_value.specs.Keys.{is_lawful};
 ghost use Rattle.resin_value.specs.Seen.{tree_of, seen};
 ghost use Rattle.resin_value.specs.Changes.{lookup, put_at, remove_at, raised, next_of, put, appended, without, empty, IsArray};
 ghost use Rattle.resin_value.specs.Changes as changes;
 
 use crate::key::Key;
-use crate::keys::KeyList;
+use crate::places::Places;
 use resin_label::PSet;
 use resin_lstr::LText;
 use resin_scalar::{Scalar, truth};
 use std::alloc::{AllocError, Global};
+use std::collections::VecDeque;
 use std::marker::Model;
 use std::rc::Rc;
 
@@ -69,33 +72,42 @@ pub(crate) struct Body {
     pub(crate) height: u32,
 }
 
-// Keys and values, in order; the value of the key at a place stands at the same place.
+// Entries in order, and where their keys stand. Entries leave at either end without moving the others.
 #[derive(Drop)]
 #[cycle(value)]
 pub(crate) struct Entries {
-    pub(crate) keys: KeyList,
-    pub(crate) values: Vec<Value>,
+    pub(crate) list: VecDeque<Entry>,
+    places: Places,
+}
+
+// A key with the value at it.
+#[derive(Drop)]
+#[cycle(value)]
+pub(crate) struct Entry {
+    pub(crate) key: Key,
+    pub(crate) value: Value,
 }
 
 impl Model for Entries {
-    ghost use Rattle.std.specs.Prelude.{◌≡◌, length};
     ghost use Rattle.resin_value.specs.Arrays.{EntryList, entries_code, entries_size};
 
     ghost Value = { EntryList };
 
     ghost coded = { entries_code };
 
-    ghost use Rattle.resin_value.specs.Seen.{paired};
+    ghost use Rattle.resin_value.specs.Seen.{pairs_of, keys_of};
 
-    ghost view = { λ a. paired a.keys a.values.items };
+    ghost view = { λ a. pairs_of a.list.items };
 
-    ghost invariant = { λ a. length a.keys ≡ length a.values.items };
+    ghost use Rattle.resin_value.specs.Placed.{IsPlaced};
+
+    ghost invariant = { λ a. IsPlaced a.places (keys_of a.list.items) };
 
     ghost size = { entries_size };
 
     ghost use Rattle.resin_value.specs.Falls.{falls};
 
-    ghost size_decreases = { λ a h. falls a.keys a.values.items h };
+    ghost size_decreases = { λ a h. falls a.list.items };
 }
 
 impl Model for Arr {
@@ -155,21 +167,32 @@ impl Clone for Entries {
     ghost is_clone = { λ e copy. copy ≡ e };
 
     fn clone(&self) -> Result<Entries, AllocError> {
-        let keys = self.keys.clone()?;
-        let values = cloned(self.values.allocator().clone()?, &self.values)?;
-        Ok(Entries { keys, values })
+        let places = self.places.clone()?;
+        let list = cloned(*self.list.allocator(), &self.list)?;
+        Ok(Entries { list, places })
     }
 }
 
-// Clones of values, in order.
-fn cloned(alloc: Global, values: &[Value]) -> Result<Vec<Value>, AllocError>
-    ensures { IfOk result (λ copies. copies.items ≡ values.now) }
+// Clones of entries, in order.
+fn cloned(alloc: Global, list: &VecDeque<Entry>) -> Result<VecDeque<Entry>, AllocError>
+    ensures { IfOk result (λ copies. copies.items ≡ list.now.items) }
 {
-    let mut copies = Vec::with_capacity(alloc, values.len())?;
-    for value in values {
-        copies.push(value.clone()?)?;
+    let mut copies = VecDeque::with_capacity(alloc, list.len())?;
+    for i in 0..list.len() {
+        copies.push_back(list[i].clone()?)?;
     }
     Ok(copies)
+}
+
+impl Clone for Entry {
+    ghost is_clone = { λ e copy. copy ≡ e };
+
+    fn clone(&self) -> Result<Entry, AllocError> {
+        Ok(Entry {
+            key: self.key.clone()?,
+            value: self.value.clone()?,
+        })
+    }
 }
 
 impl Clone for Body {
@@ -213,8 +236,8 @@ impl Entries {
         ensures { result ≡ [] }
     {
         Entries {
-            keys: KeyList::new(alloc),
-            values: Vec::new(alloc),
+            list: VecDeque::new(alloc),
+            places: Places::new(),
         }
     }
 
@@ -222,15 +245,15 @@ impl Entries {
     pub(crate) fn len(&self) -> usize
         ensures { result ≡ length self.now }
     {
-        self.values.len()
+        self.list.len()
     }
 
     // The value at a key.
     pub(crate) fn get(&self, k: &Key) -> Option<&Value>
         ensures { option_map (λ v. tree_of v.now) result ≡ lookup k.now self.now }
     {
-        match self.keys.place(k) {
-            Some(i) => Some(&self.values[i]),
+        match self.places.place(k, self.list.len()) {
+            Some(i) => Some(&self.list[i].value),
             None => None,
         }
     }
@@ -240,7 +263,8 @@ impl Entries {
         requires { i < length self.now }
         ensures { slice_get self.now i ≡ Some (result.0.now, tree_of result.1.now) }
     {
-        (&self.keys[i], &self.values[i])
+        let entry = &self.list[i];
+        (&entry.key, &entry.value)
     }
 
     // Puts a value at a key: in its place where the key is there, else last.
@@ -248,9 +272,9 @@ impl Entries {
         ensures ok { OnOk result (self.new ≡ put_at k.now (tree_of v) self.old) }
         ensures err { OnErr result (self.new ≡ self.old) }
     {
-        match self.keys.place(k) {
+        match self.places.place(k, self.list.len()) {
             Some(i) => {
-                self.values[i] = v;
+                self.list[i].value = v;
                 Ok(())
             }
             None => self.push(k.clone()?, v),
@@ -263,32 +287,32 @@ impl Entries {
         ensures ok { OnOk result (self.new ≡ self.old ++ (k, tree_of v) ∷ []) }
         ensures err { OnErr result (self.new ≡ self.old) }
     {
-        self.values.reserve(1)?;
-        self.keys.push(k)?;
-        self.values.push(v)?;
+        self.list.reserve(1)?;
+        self.places.note(*self.list.allocator(), &self.list, &k)?;
+        self.list.push_back_reserved(Entry { key: k, value: v });
         Ok(())
     }
 
-    // Takes out the entry at a key, and keeps the order of the others: those behind it are moved.
+    // Takes out the entry at a key, and keeps the order of the others.
     fn remove(&mut self, k: &Key) -> Result<(), AllocError>
         ensures ok { OnOk result (self.new ≡ remove_at k.now self.old) }
         ensures err { OnErr result (self.new ≡ self.old) }
     {
-        let Some(i) = self.keys.place(k) else {
+        let Some(i) = self.places.place(k, self.list.len()) else {
             return Ok(());
         };
-        self.keys.remove(i)?;
-        take_value(&mut self.values, i);
+        self.places.forget(*self.list.allocator(), &self.list, i)?;
+        take_entry(&mut self.list, i);
         Ok(())
     }
 }
 
-// Takes out the value at a place, and keeps the order of the others.
-fn take_value(values: &mut Vec<Value>, i: usize)
-    requires { i < vec_len values.old }
-    ensures { values.new.items ≡ remove values.old.items i }
+// Takes out the entry at a place, and keeps the order of the others. It moves those before it or those behind it, whichever are fewer.
+fn take_entry(list: &mut VecDeque<Entry>, i: usize)
+    requires { i < deque_len list.old }
+    ensures { list.new.items ≡ remove list.old.items i }
 {
-    let _value = values.remove(i);
+    let _entry = list.remove(i);
 }
 
 impl Arr {
