@@ -10,23 +10,6 @@ use Rattle.resin_value.specs.Under.lstr.declared.text.TextFault.{TextFault}
 use Rattle.resin_value.specs.Under.lstr.declared.text.TextFault.TheVariants.{TooLong, Memory}
 use Rattle.resin_scope.specs.Pages.{is_same_name, other_headers, headers_with, innermost, appended_to_innermost, Buffers}
 
--- where no header has the name, none is taken out
-others_all : (name : List ℕ) (hs : List Header) → list_any (λ (h : Header). is_same_name h.name name) hs ≡ false → other_headers name hs ≡ hs
-others_all name [] e = refl
-others_all name (h ∷ hs) e = by (is_same_name h.name name) e (others_all name hs)
-  where
-    by : (b : Bool) → (b || list_any (λ (x : Header). is_same_name x.name name) hs) ≡ false
-        → (list_any (λ (x : Header). is_same_name x.name name) hs ≡ false → other_headers name hs ≡ hs)
-        → cond (not b) (h ∷ other_headers name hs) (other_headers name hs) ≡ h ∷ hs
-    by true n rest = absurd (true≢false n)
-    by false n rest = ap (λ xs. h ∷ xs) (rest n)
-
--- a header is put last alone, where it replaces none
-pub put_last : (name value : List ℕ) (replace : Bool) (hs new : List Header)
-    → (replace && list_any (λ (h : Header). is_same_name h.name name) hs) ≡ false → new ≡ hs ++ record { name = name; value = value } ∷ [] → new ≡ headers_with name value replace hs
-put_last name value true hs new none is = is ∙ ap (λ xs. xs ++ record { name = name; value = value } ∷ []) (sym (others_all name hs none))
-put_last name value false hs new none is = is
-
 -- the innermost buffer is the last
 innermost-last : (bs : List Text) (i : ℕ) (d : Text) → i + 1 ≡ length bs → get_or bs i d ≡ innermost bs
 innermost-last [] i d e = absurd (omega (arith, e))

@@ -1,5 +1,6 @@
 -- The answer under way: its headers and status, and the open output buffers (PHP manual, "header" and "Output Control").
-use Rattle.std.specs.Prelude.{◌≡◌, ℕ, Bool, ◌==◌, ◌&&◌, ◌||◌, not, nat_eq, nat_le, List, [], ◌∷◌, ◌++◌, length, filter, codes, if◌then◌else◌, ◌<◌, ◌≤◌, Result, Ok, Err}
+use Rattle.std.specs.Prelude.{◌≡◌, ℕ, Bool, ◌==◌, ◌&&◌, ◌||◌, not, nat_eq, nat_le}
+use Rattle.std.specs.Prelude.{List, [], ◌∷◌, ◌++◌, length, filter, codes, if◌then◌else◌, ◌<◌, ◌≤◌, Result, Ok, Err}
 use Rattle.std.specs.Cmp.Lexicographic.{pointwise}
 use Rattle.std.specs.Str.{str_to_ascii_lowercase}
 use Rattle.resin_value.specs.Under.bytes.declared.header.Header.{Header}

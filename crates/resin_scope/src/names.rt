@@ -9,7 +9,8 @@ use std::collections::BTreeMap;
 use std::marker::Model;
 use std::mem;
 
-/// What each of some names stands for. A name is found in the order of the bytes, in steps of the logarithm of how many names there are, whatever they are.
+/// What each of some names stands for. A name is found in the order of the bytes, in steps of the logarithm of how many names there are,
+/// whatever they are.
 #[derive(Drop)]
 pub struct NameMap<V> {
     alloc: Global,

@@ -1,10 +1,9 @@
 //! The answer under way.
 ghost use Rattle.std.specs.Prelude.{◌≡◌, [], ◌∷◌, ◌++◌, ◌<◌, length, OnOk, OnErr, IfOk, MatchResult, Ok, Err};
-ghost use Rattle.std.specs.List.{list_any};
-ghost use Rattle.resin_value.specs.Under.bytes.declared.header.Header.{Header as HeaderField};
-ghost use Rattle.resin_scope.specs.Pages.{Buffers, is_same_name, is_kept_status, other_headers, headers_with, status_with};
+ghost use Rattle.resin_scope.specs.Pages.{Buffers, is_same_name, is_kept_status, headers_with, status_with};
 
-use resin_value::under::bytes::{Bytes, Header, HeaderList};
+use crate::headers::Headers;
+use resin_value::under::bytes::Bytes;
 use resin_value::under::lstr::{LText, TextFault, Texts};
 use std::alloc::{AllocError, Global};
 
@@ -13,7 +12,7 @@ use std::alloc::{AllocError, Global};
 #[derive(Drop)]
 pub struct Page {
     pub status: u16,
-    pub headers: HeaderList,
+    pub headers: Headers,
     pub body: Bytes,
     pub mail: Bytes,
     pub buffers: Texts,
@@ -26,7 +25,7 @@ impl Page {
     {
         Page {
             status: 200,
-            headers: HeaderList::new(alloc),
+            headers: Headers::new(alloc),
             body: Bytes::new(alloc),
             mail: Bytes::new(alloc),
             buffers: Texts::new(alloc),
@@ -48,11 +47,7 @@ impl Page {
         }) }
         ensures err { OnErr result (self.new ≡ self.old) }
     {
-        let header = Header {
-            name: Bytes::from_slice(alloc, name)?,
-            value: Bytes::from_slice(alloc, value)?,
-        };
-        put(alloc, &mut self.headers, header, replace)?;
+        self.headers.put(alloc, name, value, replace)?;
         self.status = status_with(name, self.status);
         Ok(())
     }
@@ -67,25 +62,6 @@ impl Page {
         self.buffers = appended(alloc, self.buffers.as_slice(), t)?;
         Ok(())
     }
-}
-
-// Puts a header last; where it replaces, those of its name are taken out first.
-fn put(
-    alloc: Global,
-    headers: &mut HeaderList,
-    header: Header,
-    replace: bool,
-) -> Result<(), AllocError>
-    ensures ok { OnOk result (headers.new ≡ headers_with header.name header.value replace headers.old) }
-    ensures err { OnErr result (headers.new ≡ headers.old) }
-{
-    if replace && names_header(headers.as_slice(), header.name.as_slice()) {
-        let mut kept = others(alloc, headers.as_slice(), header.name.as_slice())?;
-        kept.push(header)?;
-        *headers = kept;
-        return Ok(());
-    }
-    headers.push(header)
 }
 
 // The buffers with a text appended to the innermost. A text whose bytes are shared can't grow, so the innermost is copied; the others share theirs.
@@ -105,29 +81,6 @@ fn same_name(a: &[u8], b: &[u8]) -> bool
     ensures { result ≡ is_same_name a.now b.now }
 {
     a.eq_ignore_ascii_case(b)
-}
-
-// Whether a header has a name.
-fn names_header(headers: &[Header], name: &[u8]) -> bool
-    ensures { result ≡ list_any (λ (h : HeaderField). is_same_name h.name name.now) headers.now }
-{
-    headers.iter().any(|h| same_name(h.name.as_slice(), name))
-}
-
-// Copies of the headers that have another name.
-fn others(alloc: Global, headers: &[Header], name: &[u8]) -> Result<HeaderList, AllocError>
-    ensures { IfOk result (λ list. list ≡ other_headers name.now headers.now) }
-{
-    let mut list = HeaderList::new(alloc);
-    for h in headers {
-        if !same_name(h.name.as_slice(), name) {
-            list.push(Header {
-                name: Bytes::from_slice(alloc, h.name.as_slice())?,
-                value: Bytes::from_slice(alloc, h.value.as_slice())?,
-            })?;
-        }
-    }
-    Ok(list)
 }
 
 // Copies of texts, which share their bytes.

@@ -2,7 +2,8 @@
 ghost use Rattle.std.specs.Prelude.{◌≡◌, ◌+◌, ◌<◌, length, Some, OnOk, OnErr, IfOk, IsSome, IsTrue, MatchOption, false};
 ghost use Rattle.std.specs.Option.{option_copied};
 ghost use Rattle.std.specs.FinMap.{get, contains_key, insert, remove};
-ghost use Rattle.resin_scope.specs.Frames.{Frame, Frames, empty_frame, no_frames, entered, left, value_of, assigned, unset_frame, without_name, bound_frame, with_bound, is_own};
+ghost use Rattle.resin_scope.specs.Frames.{Frame, Frames, empty_frame, no_frames, entered, left, value_of};
+ghost use Rattle.resin_scope.specs.Frames.{assigned, unset_frame, without_name, bound_frame, with_bound, is_own};
 
 use crate::names::NameMap;
 use resin_value::Value;

@@ -1,5 +1,6 @@
 -- Header lines, and the records of mail (this project; the names of headers are the tokens of RFC 9110).
-use Rattle.std.specs.Prelude.{ℕ, ◌==◌, ◌&&◌, ◌||◌, not, nat_lt, nat_le, Bool, List, [], ◌∷◌, ◌++◌, length, reverse, codes, decimal, Option, Some, None, if◌then◌else◌}
+use Rattle.std.specs.Prelude.{ℕ, ◌==◌, ◌&&◌, ◌||◌, not, nat_lt, nat_le, Bool}
+use Rattle.std.specs.Prelude.{List, [], ◌∷◌, ◌++◌, length, reverse, codes, decimal, Option, Some, None, if◌then◌else◌}
 use Rattle.std.specs.List.{list_all, list_any, before_first, after_first}
 use Rattle.resin_scope.specs.Under.bytes.declared.header.Header.{Header}
 use Rattle.resin_scope.specs.Under.lstr.Texts.{Text, bytes_of}

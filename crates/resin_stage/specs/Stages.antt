@@ -28,7 +28,8 @@ pub record Stage : Type 0 where
 -- ---- how stages are told apart
 abbrev header_code : Coded Header
 header_code =
-    code_by (List ℕ × List ℕ) (coded× (coded_list coded_ℕ) (coded_list coded_ℕ)) (λ h. (h.name, h.value)) (λ p. record { name = p.0; value = p.1 }) (λ _. refl)
+    code_by (List ℕ × List ℕ) (coded× (coded_list coded_ℕ) (coded_list coded_ℕ))
+    (λ h. (h.name, h.value)) (λ p. record { name = p.0; value = p.1 }) (λ _. refl)
 
 abbrev Parts : Type 0
 Parts = EventList × (ℕ × (ℕ × (List Header × (List ℕ × (List ℕ × List Text)))))
@@ -36,9 +37,18 @@ Parts = EventList × (ℕ × (ℕ × (List Header × (List ℕ × (List ℕ × L
 abbrev pub stage_code : Coded Stage
 stage_code =
     code_by Parts
-    (coded× events_code (coded× coded_ℕ (coded× coded_ℕ (coded× (coded_list header_code) (coded× (coded_list coded_ℕ) (coded× (coded_list coded_ℕ) (coded_list text_code)))))))
+    (coded× events_code (coded× coded_ℕ (coded× coded_ℕ (coded× (coded_list header_code)
+    (coded× (coded_list coded_ℕ) (coded× (coded_list coded_ℕ) (coded_list text_code)))))))
     (λ s. (s.journal, (s.writes, (s.status, (s.headers, (s.body, (s.mail, s.buffers)))))))
-    (λ p. record { journal = p.0; writes = p.1.0; status = p.1.1.0; headers = p.1.1.1.0; body = p.1.1.1.1.0; mail = p.1.1.1.1.1.0; buffers = p.1.1.1.1.1.1 })
+    (λ p. record {
+      journal = p.0;
+      writes = p.1.0;
+      status = p.1.1.0;
+      headers = p.1.1.1.0;
+      body = p.1.1.1.1.0;
+      mail = p.1.1.1.1.1.0;
+      buffers = p.1.1.1.1.1.1;
+    })
     (λ _. refl)
 
 -- nothing left yet: the status is 200

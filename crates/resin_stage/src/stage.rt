@@ -1,5 +1,6 @@
 //! The writes of a request, and the answer under way.
-ghost use Rattle.std.specs.Prelude.{◌≡◌, false, ℕ, ◌+◌, ◌-◌, ◌^◌, ◌<◌, ◌≤◌, [], ◌∷◌, ◌++◌, length, decimal, Some, IfSome, IfNone, MatchOption, OnOk, OnErr, IsTrue};
+ghost use Rattle.std.specs.Prelude.{◌≡◌, false, ℕ, ◌+◌, ◌-◌, ◌^◌, ◌<◌, ◌≤◌, [], ◌∷◌, ◌++◌, length};
+ghost use Rattle.std.specs.Prelude.{decimal, Some, IfSome, IfNone, MatchOption, OnOk, OnErr, IsTrue};
 ghost use Rattle.resin_scan.specs.Words.{IsName};
 ghost use Rattle.resin_scope.specs.Under.lstr.Texts.{bytes_of};
 ghost use Rattle.resin_scope.specs.Under.journal.Channels.{is_leaving};
@@ -13,10 +14,10 @@ ghost use Rattle.resin_scope.specs.Under.bytes.declared.header.Header.{Header as
 
 use crate::buffers::Buffers;
 use crate::letter::mail_record;
-use resin_scope::Page;
-use resin_scope::under::bytes::{Bytes, HeaderList};
+use resin_scope::under::bytes::Bytes;
 use resin_scope::under::journal::{Channel, Event, Journal};
 use resin_scope::under::lstr::{Builder, LText, TextFault};
+use resin_scope::{Headers, Page};
 use std::alloc::{AllocError, Global};
 use std::marker::Model;
 
@@ -306,8 +307,9 @@ impl Stage {
         self.buffers.append(alloc, t)
     }
 
-    /// The status, the headers, the body, the mail and the journal. Open buffers are dropped.
-    pub fn into_parts(self) -> (u16, HeaderList, Bytes, Bytes, Journal)
+    /// The status, the headers, the body, the mail and the journal. Open buffers are dropped. It takes no memory, so the headers come as they are
+    /// kept: `into_list` gives their list.
+    pub fn into_parts(self) -> (u16, Headers, Bytes, Bytes, Journal)
         ensures status { result.0 ≡ self.status }
         ensures headers { result.1 ≡ self.headers }
         ensures body { result.2 ≡ self.body }

@@ -2,7 +2,7 @@
 
 /// `resin_scope`
 pub mod scope {
-    pub use resin_scope::{Chains, NameMap, Page, Scopes};
+    pub use resin_scope::{Chains, Headers, NameMap, Page, Scopes};
 }
 
 pub use resin_scope::under::journal;
