@@ -1,7 +1,8 @@
 pub mod Seats
-pub mod Lines
+pub mod Trees
+pub mod Method_trees
 pub mod Kept_tables
-pub mod Method_places
+pub mod Lines
 pub mod Prelude_fits
 pub mod Field_places
 pub mod LawLemmas

@@ -29,19 +29,6 @@ get_is_some [] i h = absurd (omega arith)
 get_is_some (x ∷ xs) zero h = refl
 get_is_some (x ∷ xs) (suc i) h = get_is_some xs i (omega arith)
 
-or_none : {X : Type 0} (o : Option X) → option_or o None ≡ o
-or_none None = refl
-or_none (Some x) = refl
-
-pub or_some : {X : Type 0} (o p : Option X) → is_some o ≡ true → option_or o p ≡ o
-or_some None p h = cc
-or_some (Some x) p h = refl
-
--- an answer that a test may add to none
-pub or_tested : {X : Type 0} (o : Option X) (b : Bool) (x : X) → (b ≡ true → is_some o ≡ true) → option_or o (if b then Some x else None) ≡ o
-or_tested o true x h = or_some o (Some x) (h refl)
-or_tested o false x h = or_none o
-
 -- the first place once one more element stands last
 from_push : {X : Type 0} (p : X → Bool) (n : ℕ) (xs : List X) (y : X) → position_from p n (xs ++ y ∷ []) ≡ option_or (position_from p n xs) (if p y then Some (n + length xs) else None)
 from_push p n [] y = ap (λ k. if p y then Some k else None) (let e : n ≡ n + 0 = omega arith in e)

@@ -6,15 +6,11 @@ use Rattle.std.specs.Option.{option_map_or, option_and_then}
 use Rattle.resin_tree.specs.declared.declaration.ClassDecl.{ClassDecl}
 use Rattle.resin_tree.specs.declared.declaration.Function.{Function}
 use Rattle.resin_tree.specs.declared.declaration.Property.{Property}
-use Rattle.resin_heap.specs.Names.{same_name}
+use Rattle.resin_names.specs.Names.{same_name}
 use Rattle.resin_heap.specs.declared.classes.MethodAt.{MethodAt}
 
 abbrev pub Table : Type 0
 Table = List ClassDecl
-
--- a class as it was declared, and the number of its parent
-abbrev pub Class : Type 0
-Class = ClassDecl × Option ℕ
 
 abbrev pub class_names : Table → List (List ℕ)
 class_names t = map (λ d. d.name) t

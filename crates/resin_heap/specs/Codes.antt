@@ -10,7 +10,7 @@ use Rattle.resin_tree.specs.declared.declaration.Property.{Property}
 use Rattle.resin_tree.specs.declared.declaration.Function.{Function}
 use Rattle.resin_tree.specs.declared.declaration.ClassDecl.{ClassDecl}
 use Rattle.resin_tree.specs.declared.statement.Stmt.{Stmt}
-use Rattle.resin_heap.specs.Classes.{Class, Table}
+use Rattle.resin_heap.specs.Classes.{Table}
 
 abbrev pub bytes_code : Coded (List ℕ)
 bytes_code = coded_list coded_ℕ
@@ -19,14 +19,19 @@ abbrev pub default_code : Coded (Option Constant)
 default_code = coded_option constant.the_row.coded
 
 abbrev pub parameter_code : Coded Parameter
-parameter_code = code_by (List ℕ × Option Constant) (coded× bytes_code default_code) (λ p. (p.name, p.default)) (λ p. record { name = p.0; default = p.1 }) (λ _. refl)
+parameter_code =
+    code_by (List ℕ × Option Constant) (coded× bytes_code default_code)
+    (λ p. (p.name, p.default)) (λ p. record { name = p.0; default = p.1 }) (λ _. refl)
 
 abbrev pub property_code : Coded Property
-property_code = code_by (List ℕ × Option Constant) (coded× bytes_code default_code) (λ p. (p.name, p.default)) (λ p. record { name = p.0; default = p.1 }) (λ _. refl)
+property_code =
+    code_by (List ℕ × Option Constant) (coded× bytes_code default_code)
+    (λ p. (p.name, p.default)) (λ p. record { name = p.0; default = p.1 }) (λ _. refl)
 
 abbrev pub function_code : Coded Function
 function_code =
-    code_by (ℕ × (List ℕ × (List Parameter × List Stmt))) (coded× coded_ℕ (coded× bytes_code (coded× (coded_list parameter_code) (coded_list statement.the_row.coded))))
+    code_by (ℕ × (List ℕ × (List Parameter × List Stmt)))
+    (coded× coded_ℕ (coded× bytes_code (coded× (coded_list parameter_code) (coded_list statement.the_row.coded))))
     (λ f. (f.line, (f.name, (f.parameters, f.body)))) (λ p. record { line = p.0; name = p.1.0; parameters = p.1.1.0; body = p.1.1.1 }) (λ _. refl)
 
 abbrev pub declaration_code : Coded ClassDecl
@@ -36,9 +41,6 @@ declaration_code =
     (λ d. (d.line, (d.name, (d.parent, (d.properties, d.methods)))))
     (λ p. record { line = p.0; name = p.1.0; parent = p.1.1.0; properties = p.1.1.1.0; methods = p.1.1.1.1 })
     (λ _. refl)
-
-abbrev pub class_code : Coded Class
-class_code = coded× declaration_code (coded_option coded_ℕ)
 
 abbrev pub table_code : Coded Table
 table_code = coded_list declaration_code

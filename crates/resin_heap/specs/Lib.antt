@@ -1,7 +1,7 @@
-pub mod Names
 pub mod Classes
 pub mod Codes
-pub mod Places
+pub mod Branches
+pub mod MethodIndex
 pub mod Prelude
 pub mod Tables
 pub mod Objects

@@ -10,9 +10,12 @@ use Rattle.resin_tree.specs.declared.declaration.Constant.{Constant}
 use Rattle.resin_tree.specs.declared.declaration.Constant.TheVariants as constant
 use Rattle.resin_tree.specs.declared.expression.Literal.TheVariants as literal
 use Rattle.resin_heap.specs.declared.prelude.PreludeClass.{PreludeClass}
-use Rattle.resin_heap.specs.declared.prelude.PreludeClass.TheVariants.{Throwable, Exception, Error, ArithmeticError, TypeError, ValueError, DivisionByZeroError, ArgumentCountError, PolicyException, SqlException, Policy, NoExport, Filter, LostPolicy}
+use Rattle.resin_heap.specs.declared.prelude.PreludeClass.TheVariants.{Throwable, Exception, Error, ArithmeticError, TypeError}
+use Rattle.resin_heap.specs.declared.prelude.PreludeClass.TheVariants.{ValueError, DivisionByZeroError, ArgumentCountError}
+use Rattle.resin_heap.specs.declared.prelude.PreludeClass.TheVariants.{PolicyException, SqlException, Policy, NoExport, Filter, LostPolicy}
 use Rattle.resin_heap.specs.declared.prelude.PreludeMethod.{PreludeMethod}
-use Rattle.resin_heap.specs.declared.prelude.PreludeMethod.TheVariants.{Construct, GetMessage, GetCode, Allow, MergeToItself, Refuse, FilterRead, FilterWrite, FilterFunction}
+use Rattle.resin_heap.specs.declared.prelude.PreludeMethod.TheVariants.{Construct, GetMessage, GetCode, Allow, MergeToItself}
+use Rattle.resin_heap.specs.declared.prelude.PreludeMethod.TheVariants.{Refuse, FilterRead, FilterWrite, FilterFunction}
 use Rattle.resin_heap.specs.declared.classes.MethodAt.{MethodAt}
 use Rattle.resin_heap.specs.Classes.{Table}
 

@@ -1,10 +1,14 @@
 //! Classes, by their numbers.
-ghost use Rattle.std.specs.Prelude.{◌≡◌, ◌+◌, ◌<◌, ◌++◌, ◌∷◌, [], ◌↔◌, Some, None, Err, IfOk, IfErr, IfSome, IsSome, IsTrue, OnOk, OnErr, length, reverse, slice_get};
+ghost use Rattle.std.specs.Prelude.{◌≡◌, ◌+◌, ◌<◌, ◌≤◌, ◌++◌, ◌∷◌, [], ◌↔◌, false, Some, None, Err, IfOk, IfErr};
+ghost use Rattle.std.specs.Prelude.{IfSome, IsSome, IsTrue, OnOk, OnErr, length, reverse, slice_get};
 ghost use Rattle.resin_scan.specs.Words.{IsName};
-ghost use Rattle.resin_heap.specs.Classes.{class_names, find_class, parent_in, parent_of, is_a, line, method_of, function_at, NamesNoParent};
+ghost use Rattle.std.specs.List.{flat_map};
+ghost use Rattle.std.specs.Option.{option_map_or};
+ghost use Rattle.resin_heap.specs.Classes.{class_names, find_class, parent_in, parent_of, is_a, line};
+ghost use Rattle.resin_heap.specs.Classes.{method_of, function_at, own_properties, properties_of, NamesNoParent};
 ghost use Rattle.resin_heap.specs.Prelude.{prelude, StartsWithPrelude};
 
-use crate::class::{Class, MOST_METHODS};
+use crate::class::MOST_METHODS;
 use crate::table::ClassTable;
 use resin_tree::{ClassDecl, Function};
 use std::alloc::{AllocError, Global};
@@ -42,6 +46,23 @@ pub struct MethodAt {
     pub index: u32,
 }
 
+// Puts a class last, once no other classes share the table.
+fn append_to(
+    table: &mut Rc<ClassTable>,
+    c: &ClassDecl,
+    parent: Option<u32>,
+) -> Result<(), AllocError>
+    requires few_classes { length table.old.value < MOST_CLASSES }
+    requires few_methods { length c.now.methods < MOST_METHODS }
+    requires fresh { find_class table.old.value c.now.name ≡ None }
+    requires under { parent ≡ parent_in table.old.value c.now }
+    ensures ok { OnOk result (table.new.value ≡ table.old.value ++ c.now ∷ []) }
+    ensures err { OnErr result (table.new.value ≡ table.old.value) }
+{
+    let own = Rc::make_mut(table)?;
+    own.append(c, parent)
+}
+
 /// The classes of a request, numbered from 0 in the order of their declarations, those of the runtime first. Contracts see the list of the
 /// declarations. Names ignore ASCII case. Copies share their classes until one of them declares another.
 #[derive(Drop)]
@@ -57,7 +78,11 @@ impl Model for Classes {
 
     ghost coded = { table_code };
 
+    ghost use Rattle.resin_heap.specs.Prelude.{StartsWithPrelude};
+
     ghost view = { λ c. c.table.value };
+
+    ghost invariant = { λ c. StartsWithPrelude c.table.value };
 }
 
 impl Clone for Classes {
@@ -140,17 +165,7 @@ impl Classes {
         ensures ok { OnOk result (self.new ≡ self.old ++ c.now ∷ []) }
         ensures err { OnErr result (self.new ≡ self.old) }
     {
-        let table = Rc::make_mut(&mut self.table)?;
-        table.append(c, parent)
-    }
-
-    // A class with what was found out about it.
-    fn class(&self, c: u32) -> &Class
-        requires { c < length self.now }
-        ensures declared { slice_get self.now c ≡ Some result.now.0 }
-        ensures under { result.now.1 ≡ parent_of self.now c }
-    {
-        self.table.class(c)
+        append_to(&mut self.table, c, parent)
     }
 
     /// The declaration of a class, as it was declared.
@@ -158,7 +173,7 @@ impl Classes {
         requires { c < length self.now }
         ensures { slice_get self.now c ≡ Some result.now }
     {
-        self.class(c).declaration()
+        self.table.declaration(c)
     }
 
     /// The name of a class, as it is written in its declaration.
@@ -176,7 +191,7 @@ impl Classes {
         ensures value { result ≡ parent_of self.now c }
         ensures smaller { IfSome result (λ parent. parent < c) }
     {
-        self.class(c).parent()
+        self.table.parent(c)
     }
 
     /// Whether a class is another one, or stands under it at any depth.
@@ -185,13 +200,23 @@ impl Classes {
         ensures { result ≡ is_a self.now c other }
     {
         let mut at = c;
-        while at != other {
-            match self.parent(at) {
+        while at > other {
+            match self.towards(at, other) {
                 Some(above) => at = above,
                 None => return false,
             }
         }
-        true
+        at == other
+    }
+
+    // A class above another one, such that both are alike under a third one of a smaller number.
+    fn towards(&self, c: u32, other: u32) -> Option<u32>
+        requires within { c < length self.now }
+        requires above { other < c }
+        ensures alike { is_a self.now c other ≡ option_map_or (λ above. is_a self.now above other) result false }
+        ensures smaller { IfSome result (λ above. above < c) }
+    {
+        self.table.towards(c, other)
     }
 
     /// The method that a call by this name on an object of a class reaches, in any case of its ASCII letters: the class's own, else that of the
@@ -201,13 +226,7 @@ impl Classes {
         ensures value { result ≡ method_of self.now c name.now }
         ensures there { IfSome result (λ at. IsSome (function_at self.now at)) }
     {
-        let mut at = c;
-        loop {
-            match self.class(at).method(name) {
-                Some(index) => return Some(MethodAt { class: at, index }),
-                None => at = self.parent(at)?,
-            }
-        }
+        self.table.method(c, name)
     }
 
     /// The declaration of a method.
@@ -232,5 +251,41 @@ impl Classes {
         }
         numbers.reverse();
         Ok(numbers)
+    }
+
+    /// The classes that give an object of a class its properties, from the topmost on: those of its ancestry that declare any.
+    pub fn property_classes(&self, alloc: Global, c: u32) -> Result<Vec<u32>, AllocError>
+        requires { c < length self.now }
+        ensures { IfOk result (λ numbers. flat_map (own_properties self.now) numbers.items ≡ properties_of self.now c) }
+    {
+        let mut numbers = Vec::new(alloc);
+        let mut next = self.giver(c);
+        while let Some(at) = next {
+            numbers.push(at)?;
+            next = self.giver_above(at);
+        }
+        numbers.reverse();
+        Ok(numbers)
+    }
+
+    // The nearest class that declares properties: a class or one above it.
+    fn giver(&self, c: u32) -> Option<u32>
+        requires { c < length self.now }
+        ensures all { properties_of self.now c ≡ option_map_or (properties_of self.now) result [] }
+        ensures near { IfSome result (λ giver. giver ≤ c) }
+    {
+        self.table.giver(c)
+    }
+
+    // The nearest class above another one that declares properties.
+    fn giver_above(&self, c: u32) -> Option<u32>
+        requires { c < length self.now }
+        ensures all { properties_of self.now c ≡ option_map_or (properties_of self.now) result [] ++ own_properties self.now c }
+        ensures smaller { IfSome result (λ giver. giver < c) }
+    {
+        match self.parent(c) {
+            Some(parent) => self.giver(parent),
+            None => None,
+        }
     }
 }

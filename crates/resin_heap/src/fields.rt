@@ -1,13 +1,14 @@
 //! The fields of an object.
-ghost use Rattle.std.specs.Prelude.{◌≡◌, ◌<◌, ◌↔◌, [], Some, IsTrue, position, length, slice_get, remove, is_some, IsSome, None, MatchOption, IfOk, OnOk, OnErr, option_copied};
+ghost use Rattle.std.specs.Prelude.{◌≡◌, ◌<◌, ◌↔◌, [], Some, IsTrue, position, length, slice_get, remove};
+ghost use Rattle.std.specs.Prelude.{is_some, IsSome, None, MatchOption, IfOk, OnOk, OnErr, option_copied};
 ghost use Rattle.std.specs.Str.{bytes_eq};
 ghost use Rattle.std.specs.Map.{lookup, values_of};
 ghost use Rattle.indexmap.specs.IndexMap.{keys, set_value_at};
 ghost use Rattle.resin_heap.specs.Objects.{field, with_field, without_field, HasDistinctNames};
 
-use crate::names::{FieldName, place_of};
 use indexmap::IndexMap;
 use resin_items::SharedBytes;
+use resin_names::{FieldName, place_of};
 use resin_value::under::bytes::Bytes;
 use resin_value::{Fields, Value};
 use std::alloc::{AllocError, Global};

@@ -1,6 +1,8 @@
 //! Laws of classes and of objects, for the reader of their definitions.
-ghost use Rattle.resin_heap.specs.Laws.{ParentsAreSmaller, IsItself, IsWhatItsParentIs, IsNothingElse, OwnMethodsGoFirst, MethodsAreInherited, NoOtherMethods, ParentsPropertiesGoFirst, NoOtherProperties};
-ghost use Rattle.resin_heap.specs.Laws.{FindsWhatWasSet, SetsOneField, KeepsPlaces, ForgetsWhatWasUnset, UnsetsOneField, HasItsFields, ChangesOneObject, KeepsClasses};
+ghost use Rattle.resin_heap.specs.Laws.{ParentsAreSmaller, IsItself, IsWhatItsParentIs, IsNothingElse, OwnMethodsGoFirst};
+ghost use Rattle.resin_heap.specs.Laws.{MethodsAreInherited, NoOtherMethods, ParentsPropertiesGoFirst, NoOtherProperties};
+ghost use Rattle.resin_heap.specs.Laws.{FindsWhatWasSet, SetsOneField, KeepsPlaces, ForgetsWhatWasUnset};
+ghost use Rattle.resin_heap.specs.Laws.{UnsetsOneField, HasItsFields, ChangesOneObject, KeepsClasses};
 
 /// Does nothing. Its contract says of the definitions of classes that parents have smaller numbers, that a class is itself and what its parent is
 /// and nothing else, that its own methods go before those that it inherits, and that the properties of its parent go before its own.

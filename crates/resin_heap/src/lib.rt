@@ -2,17 +2,18 @@
 //! with their fields.
 //!
 //! Contracts see the classes as the list of their declarations (`specs/Classes.antt`), and objects as a class with fields by name
-//! (`specs/Objects.antt`). `Classes` finds a class and a method as PHP does, through the parents; `Heap` keeps every object that was made.
+//! (`specs/Objects.antt`). `Classes` finds a class and a method as PHP does, but walks through no parents; `Heap` keeps every object that was made.
 //! `RuntimeClasses` holds the runtime's own classes once, for all requests of a site.
 //! `class_laws` and `object_laws` say what these definitions come to (`specs/Laws.antt`). `specs/Prelude.antt` has the runtime's own classes.
 #![tactic(auto)]
 
+mod branches;
 mod class;
 mod classes;
 mod fields;
 mod heap;
 mod laws;
-mod names;
+mod method_index;
 mod prelude;
 mod runtime;
 mod table;

@@ -2,7 +2,9 @@
 ghost use Rattle.std.specs.Prelude.{◌≡◌, [], ◌∷◌, None, map, slice_get, IfOk};
 ghost use Rattle.std.specs.Option.{option_map};
 ghost use Rattle.resin_scan.specs.Words.{IsName};
-ghost use Rattle.resin_heap.specs.Prelude.{name_of, parent_class, number_of, method_name, methods_of_class, parameters_of, parameter_of, property_of, properties_of_exceptions, properties_of_lost, text, zero_constant, empty_array, function_of, properties_of_class, declaration_of, prelude_method_at, all_classes};
+ghost use Rattle.resin_heap.specs.Prelude.{name_of, parent_class, number_of, method_name, methods_of_class, parameters_of, parameter_of};
+ghost use Rattle.resin_heap.specs.Prelude.{property_of, properties_of_exceptions, properties_of_lost, text, zero_constant, empty_array};
+ghost use Rattle.resin_heap.specs.Prelude.{function_of, properties_of_class, declaration_of, prelude_method_at, all_classes};
 
 use crate::classes::MethodAt;
 use resin_items::{Items, Shared, SharedBytes};

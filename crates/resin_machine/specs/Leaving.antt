@@ -1,5 +1,6 @@
 -- Steps of writes and of the answer under way (RESIN's default filters in outline; the order is this project's own).
-use Rattle.std.specs.Prelude.{◌≡◌, ℕ, ◌+◌, ◌-◌, ◌^◌, nat_lt, nat_le, Bool, false, List, [], ◌∷◌, ◌++◌, length, slice_get, unwrap_or, Option, None, Some, Ok, if◌then◌else◌}
+use Rattle.std.specs.Prelude.{◌≡◌, ℕ, ◌+◌, ◌-◌, ◌^◌, nat_lt, nat_le, Bool, false}
+use Rattle.std.specs.Prelude.{List, [], ◌∷◌, ◌++◌, length, slice_get, unwrap_or, Option, None, Some, Ok, if◌then◌else◌}
 use Rattle.resin_heap.specs.Under.lstr.declared.limits.TheConstants.{LONGEST}
 use Rattle.resin_heap.specs.Under.lstr.Texts.{Text}
 use Rattle.resin_heap.specs.Under.lstr.declared.text.TextFault.{TextFault}

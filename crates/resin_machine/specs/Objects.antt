@@ -1,5 +1,6 @@
 -- Steps on functions, classes and objects (PHP manual, "Functions", "Classes and Objects"), and the exceptions that the runtime throws.
-use Rattle.std.specs.Prelude.{ℕ, pos, ◌+◌, ◌&&◌, nat_lt, nat_le, Bool, false, List, [], ◌∷◌, ◌++◌, length, codes, Option, None, Some, Result, Ok, Err, unwrap_or, is_some, is_none, if◌then◌else◌}
+use Rattle.std.specs.Prelude.{ℕ, pos, ◌+◌, ◌&&◌, nat_lt, nat_le, Bool, false, List, [], ◌∷◌, ◌++◌, length, codes}
+use Rattle.std.specs.Prelude.{Option, None, Some, Result, Ok, Err, unwrap_or, is_some, is_none, if◌then◌else◌}
 use Rattle.std.specs.Option.{option_map_or}
 use Rattle.std.specs.Str.{str_to_ascii_lowercase}
 use Rattle.std.specs.FinMap.{get, insert}
@@ -9,8 +10,10 @@ use Rattle.resin_heap.specs.Under.lstr.Texts.{Text as LabelledText}
 use Rattle.resin_heap.specs.Under.scalar.declared.faults.CallStop.{CallStop}
 use Rattle.resin_heap.specs.Under.scalar.declared.faults.CallStop.TheVariants.{Throw, Fault as CallFault, Memory as CallMemory}
 use Rattle.resin_heap.specs.Under.scalar.declared.faults.ErrorKind.{ErrorKind}
-use Rattle.resin_heap.specs.Under.scalar.declared.faults.ErrorKind.TheVariants.{Plain, Arithmetic, DivisionByZero, «Type» as TypeKind, ArgumentCount, Value as ValueKind}
-use Rattle.resin_heap.specs.Under.scalar.declared.faults.ScriptFault.TheVariants.{FuelSpent, UndefinedFunction, UndefinedClass, Redeclared, BadOperand}
+use Rattle.resin_heap.specs.Under.scalar.declared.faults.ErrorKind.TheVariants.{Plain, Arithmetic, DivisionByZero}
+use Rattle.resin_heap.specs.Under.scalar.declared.faults.ErrorKind.TheVariants.{«Type» as TypeKind, ArgumentCount, Value as ValueKind}
+use Rattle.resin_heap.specs.Under.scalar.declared.faults.ScriptFault.TheVariants.{FuelSpent, UndefinedFunction}
+use Rattle.resin_heap.specs.Under.scalar.declared.faults.ScriptFault.TheVariants.{UndefinedClass, Redeclared, BadOperand}
 use Rattle.resin_heap.specs.Under.value.declared.value.Value.{Value}
 use Rattle.resin_heap.specs.Under.value.declared.value.Value.TheVariants.{Null, Int, Text}
 use Rattle.resin_heap.specs.Under.value.Values.{FieldList}
@@ -23,7 +26,8 @@ use Rattle.resin_heap.specs.declared.heap.Object.{Object}
 use Rattle.resin_heap.specs.declared.classes.ClassFault.{ClassFault}
 use Rattle.resin_heap.specs.declared.classes.ClassFault.TheVariants.{Redeclared as IsThere, NoParent, Memory as NoMemory}
 use Rattle.resin_heap.specs.declared.prelude.PreludeClass.{PreludeClass}
-use Rattle.resin_heap.specs.declared.prelude.PreludeClass.TheVariants.{Error, ArithmeticError, DivisionByZeroError, TypeError, ArgumentCountError, ValueError}
+use Rattle.resin_heap.specs.declared.prelude.PreludeClass.TheVariants.{Error, ArithmeticError, DivisionByZeroError}
+use Rattle.resin_heap.specs.declared.prelude.PreludeClass.TheVariants.{TypeError, ArgumentCountError, ValueError}
 use Rattle.resin_machine.specs.declared.stop.Stop.{Stop}
 use Rattle.resin_machine.specs.declared.stop.Stop.TheVariants.{Thrown, Fault, Memory}
 use Rattle.resin_machine.specs.State.{State}
@@ -127,7 +131,10 @@ exception_of message = (codes "message", Text message) ∷ (codes "code", Int (p
 abbrev pub throw_new : {A : Type 0} → PreludeClass → List ℕ → Act A
 throw_new class message m =
     if nat_lt (length m.heap) last_number
-    then (Err (Thrown (length m.heap + 1)), record m { heap = m.heap ++ record { class = number_of class; fields = exception_of (carrying no_labels message) } ∷ [] })
+    then (
+      Err (Thrown (length m.heap + 1)),
+      record m { heap = m.heap ++ record { class = number_of class; fields = exception_of (carrying no_labels message) } ∷ [] },
+    )
     else faults FuelSpent m
 
 -- the class of an error

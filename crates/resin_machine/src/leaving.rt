@@ -6,22 +6,24 @@ ghost use Rattle.resin_stage.specs.Under.journal.Channels.{is_leaving};
 ghost use Rattle.resin_stage.specs.Lines.{header_line};
 ghost use Rattle.resin_stage.specs.Writes.{IsLawful};
 ghost use Rattle.resin_machine.specs.Steps.{Acts, ActsLoosely};
-ghost use Rattle.resin_machine.specs.Leaving.{draw, class_name_of, pass, deny, deny_filter, send_page, send_header, send_status, send_mail, IsUnderWay, MayAskNow, MaySendNow, open_buffer, close_buffer, buffer, text_stop};
+ghost use Rattle.resin_machine.specs.Leaving.{draw, class_name_of, pass, deny, deny_filter, send_page, send_header, send_status};
+ghost use Rattle.resin_machine.specs.Leaving.{send_mail, IsUnderWay, MayAskNow, MaySendNow, open_buffer, close_buffer, buffer, text_stop};
 
 use crate::machine::Machine;
 use crate::stop::Stop;
 use resin_heap::PreludeClass;
-use resin_heap::under::bytes::{Bytes, HeaderList};
+use resin_heap::under::bytes::Bytes;
 use resin_heap::under::lstr::{LText, TextFault};
 use resin_heap::under::scalar::ScriptFault;
 use resin_stage::under::journal::{Channel, Journal};
+use resin_stage::under::scope::Headers;
 use std::alloc::{AllocError, Global};
 
 /// What a request leaves when its scripts are done: its status, the headers that they set, its body, its mail, and its journal.
 #[derive(Drop)]
 pub struct Finished {
     pub status: u16,
-    pub headers: HeaderList,
+    pub headers: Headers,
     pub body: Bytes,
     pub mail: Bytes,
     pub journal: Journal,

@@ -53,7 +53,18 @@ impl Model for Machine {
 
     ghost Value = { State };
 
-    ghost coded = { Prim.hlevel (codes, constant.the_row.coded, statement.the_row.coded, value_code, stage_code, frames_code, variables_code, chains_code, named_code, name_set_code) };
+    ghost coded = { Prim.hlevel (
+      codes,
+      constant.the_row.coded,
+      statement.the_row.coded,
+      value_code,
+      stage_code,
+      frames_code,
+      variables_code,
+      chains_code,
+      named_code,
+      name_set_code,
+    ) };
 
     ghost view = { λ m. record {
       frames = m.scopes;

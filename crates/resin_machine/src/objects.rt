@@ -2,7 +2,8 @@
 ghost use Rattle.std.specs.Prelude.{◌≡◌, IfOk, option_copied};
 ghost use Rattle.std.specs.Str.{str_to_ascii_lowercase};
 ghost use Rattle.resin_machine.specs.Steps.{Acts};
-ghost use Rattle.resin_machine.specs.Objects.{declare_function, find_function, declare_class, class_stop, find_class_of, make_object, is_object, class_of, read_field, set_field, take_field, unset_field};
+ghost use Rattle.resin_machine.specs.Objects.{declare_function, find_function, declare_class, class_stop, find_class_of};
+ghost use Rattle.resin_machine.specs.Objects.{make_object, is_object, class_of, read_field, set_field, take_field, unset_field};
 
 use crate::machine::Machine;
 use crate::stop::Stop;

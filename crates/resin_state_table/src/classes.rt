@@ -138,9 +138,9 @@ fn push_method(alloc: Global, classes: &Classes, c: u32, name: &[u8], out: &mut 
     }
 }
 
-fn push_ancestry(out: &mut Line, ancestry: Result<Vec<u32>, AllocError>) {
-    if let Some(ancestry) = out.taken(ancestry) {
-        push_numbers(out, &ancestry);
+fn push_classes(out: &mut Line, classes: Result<Vec<u32>, AllocError>) {
+    if let Some(classes) = out.taken(classes) {
+        push_numbers(out, &classes);
     }
 }
 
@@ -152,7 +152,8 @@ fn act_on_class(classes: &Classes, c: u32, row: Row<'_>, out: &mut Line)
         "parent" => push_parent(row.alloc, classes, c, out),
         "is_a" => push_is_a(classes, c, row.bytes(2), out),
         "method" => push_method(row.alloc, classes, c, row.bytes(2), out),
-        "ancestry" => push_ancestry(out, classes.ancestry(row.alloc, c)),
+        "ancestry" => push_classes(out, classes.ancestry(row.alloc, c)),
+        "property_classes" => push_classes(out, classes.property_classes(row.alloc, c)),
         "line" => push_count(out, u64::from(classes.declaration(c).line)),
         "properties" => {
             let properties = classes.declaration(c).properties.get();

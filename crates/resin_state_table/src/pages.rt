@@ -1,11 +1,12 @@
 //! Acts on the filters of channels and functions, and on the answer under way.
 use crate::answer::{push_count, push_missing, push_numbers, push_text, push_unknown};
 use crate::command::channel;
-use resin_heap::under::bytes::Header;
+use resin_heap::under::bytes::{Header, HeaderList};
 use resin_heap::under::lstr::{LText, TextFault};
-use resin_stage::under::scope::{Chains, Page};
+use resin_stage::under::scope::{Chains, Headers, Page};
 use resin_table_rows::{Line, Row};
-use std::alloc::AllocError;
+use std::alloc::{AllocError, Global};
+use std::mem;
 
 pub fn act_on_chains(chains: &mut Chains, row: Row<'_>, out: &mut Line) {
     let filter = row.number(2);
@@ -26,12 +27,19 @@ fn push_bytes(out: &mut Line, bytes: &[u8]) {
 }
 
 /// Puts header lines last, each with a `;` behind it.
-pub fn push_header_lines(out: &mut Line, headers: &[Header]) {
+fn push_header_lines(out: &mut Line, headers: &[Header]) {
     for header in headers {
         push_bytes(out, header.name.as_slice());
         out.push(':');
         push_bytes(out, header.value.as_slice());
         out.push(';');
+    }
+}
+
+/// Puts the lines of headers last whose list could be made.
+pub fn push_header_list(out: &mut Line, headers: Result<HeaderList, AllocError>) {
+    if let Some(headers) = out.taken(headers) {
+        push_header_lines(out, headers.as_slice());
     }
 }
 
@@ -103,10 +111,32 @@ fn put_header(page: &mut Page, row: Row<'_>) -> Result<(), AllocError> {
     page.put_header(row.alloc, row.bytes(1), row.bytes(2), replace)
 }
 
-fn push_parts(page: &Page, row: Row<'_>, out: &mut Line) {
+/// Puts headers back that were taken out, in order.
+fn put_back(alloc: Global, page: &mut Page, headers: &[Header]) -> Result<(), AllocError> {
+    for h in headers {
+        page.headers
+            .put(alloc, h.name.as_slice(), h.value.as_slice(), false)?;
+    }
+    Ok(())
+}
+
+fn push_taken(alloc: Global, page: &mut Page, headers: &[Header], out: &mut Line) {
+    push_header_lines(out, headers);
+    out.note(put_back(alloc, page, headers));
+}
+
+/// Puts the header lines of a page last, which are taken out and put back.
+fn push_headers(alloc: Global, page: &mut Page, out: &mut Line) {
+    let headers = mem::replace(&mut page.headers, Headers::new(alloc));
+    if let Some(headers) = out.taken(headers.into_list(alloc)) {
+        push_taken(alloc, page, headers.as_slice(), out);
+    }
+}
+
+fn push_parts(page: &mut Page, row: Row<'_>, out: &mut Line) {
     out.push_str(" = ");
     if row.field(0) == "headers" {
-        push_header_lines(out, page.headers.as_slice());
+        push_headers(row.alloc, page, out);
     } else {
         push_buffers(out, page.buffers.as_slice());
     }

@@ -8,7 +8,7 @@ ghost use Rattle.resin_stage.specs.Lines.{header_line};
 use crate::answer::{push_behind_bar, push_bytes, push_count, push_missing, push_unknown};
 use crate::classes::is_name;
 use crate::journals::ask;
-use crate::pages::push_header_lines;
+use crate::pages::push_header_list;
 use itoa::Buffer;
 use resin_heap::under::bytes::Bytes;
 use resin_heap::under::lstr::LText;
@@ -221,7 +221,7 @@ fn finish(alloc: Global, stage: &mut Stage, out: &mut Line) {
     let whole = mem::replace(stage, Stage::new(alloc));
     let (status, headers, body, mail, journal) = whole.into_parts();
     out.tell(" = ", u64::from(status), " | ");
-    push_header_lines(out, headers.as_slice());
+    push_header_list(out, headers.into_list(alloc));
     push_behind_bar(alloc, out, body.as_slice());
     push_behind_bar(alloc, out, mail.as_slice());
     out.tell(" | ", journal.as_slice().len() as u64, "");

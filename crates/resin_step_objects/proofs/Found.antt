@@ -177,10 +177,10 @@ own_stops o t c ps i p rest m0 m m' s r lt at h is l d =
     begun_err (set_properties o (own_properties t c ++ rest)) (set_properties o rest) m0 r s m' h
     (subst (λ (qs : List Property). Runs (set_properties o (qs ++ rest)) m0 (Err s) m') is (property_stops o ps i p rest (set_properties o (ps ++ rest)) m0 m m' s lt at l d))
 
--- the properties along a line of classes
-pub line_properties : (t : Table) (c : ℕ) (cs : List ℕ) → cs ≡ reverse (line t c) → flat_map (own_properties t) cs ≡ properties_of t c
-unfolding properties_of
-line_properties t c cs e = ap (flat_map (own_properties t)) e
+-- the properties of the classes that declare those of a class, as the machine has them
+pub given_properties : (t kept : Table) (c : ℕ) (cs given : List ℕ) → given ≡ cs → flat_map (own_properties kept) cs ≡ properties_of kept c → kept ≡ t → flat_map (own_properties t) given ≡ properties_of t c
+given_properties t kept c cs given e f same =
+    ap (flat_map (own_properties t)) e ∙ ap (λ u. flat_map (own_properties u) cs) (sym same) ∙ f ∙ ap (λ u. properties_of u c) same
 
 -- all classes of a line are done
 pub classes_done : (o : ℕ) (t : Table) (cs : List ℕ) (i : ℕ) (m m' : State) → length cs ≤ i → Leaves (set_properties o (flat_map (own_properties t) cs)) m (set_properties o (flat_map (own_properties t) (drop i cs))) m'

@@ -1,5 +1,6 @@
 //! Parameters, methods that were found, and the bodies of the methods of the runtime's own classes.
-ghost use Rattle.resin_step_functions.specs.Under.meaning_forms.Invoke.{argument_for, bind, default_value, find_method, method_named, own_body, result_of};
+ghost use Rattle.resin_step_functions.specs.Under.meaning_forms.Invoke.{argument_for, bind, default_value};
+ghost use Rattle.resin_step_functions.specs.Under.meaning_forms.Invoke.{find_method, method_named, own_body, result_of};
 ghost use Rattle.resin_step_functions.specs.Under.meaning_forms.Runs.{Runs, on_ok};
 ghost use Rattle.resin_step_objects.specs.Methods.{seen_method};
 ghost use Rattle.std.specs.Option.{option_copied, option_map};
@@ -47,8 +48,8 @@ fn argument_for(
     }
 }
 
-/// Gives each parameter its argument; further arguments are ignored. A parameter without an argument gets its default, and ArgumentCountError is thrown where it has
-/// none.
+/// Gives each parameter its argument; further arguments are ignored. A parameter without an argument gets its default, and
+/// ArgumentCountError is thrown where it has none.
 pub fn bind(
     alloc: Global,
     m: &mut Machine,

@@ -36,7 +36,8 @@ fn set_property(alloc: Global, m: &mut Machine, o: u32, p: &Property) -> Result<
 
 // The properties that one class declares, of a list that begins with them.
 fn set_properties(alloc: Global, m: &mut Machine, o: u32, class: u32) -> Result<(), Stop>
-    ensures begins { (rest : List AnyProperty) → Begins (set_properties o (own_properties m.old.classes class ++ rest)) (set_properties o rest) m.old result m.new }
+    ensures begins { (rest : List AnyProperty)
+        → Begins (set_properties o (own_properties m.old.classes class ++ rest)) (set_properties o rest) m.old result m.new }
     ensures kept { OnOk result (m.new.classes ≡ m.old.classes) }
 {
     if class >= m.classes().len() {
@@ -58,8 +59,8 @@ pub fn with_properties(alloc: Global, m: &mut Machine, class: u32) -> Result<u32
     if class >= m.classes().len() {
         return Ok(o);
     }
-    let ancestry = m.classes().ancestry(alloc, class)?;
-    let line = ancestry.as_slice();
+    let declaring = m.classes().property_classes(alloc, class)?;
+    let line = declaring.as_slice();
     for c in line {
         set_properties(alloc, m, o, *c)?;
     }
