@@ -88,27 +88,21 @@ pub(crate) fn insert<T: Tables>(
         (keeping (T.stored tables.new) (T.faults tables.new) (T.answers tables.new) calls.new) }
 {
     let columns = opened(alloc, tables, calls, statement.table.as_slice())?;
-    match &statement.columns {
-        Some(names) => insert_into(
-            alloc,
-            statement,
-            columns.as_slice(),
-            names.as_slice(),
-            values,
-            tables,
-            calls,
-        ),
+    let all;
+    let names = match &statement.columns {
+        Some(names) => names,
         None => {
-            let names = names_of(alloc, columns.as_slice())?;
-            insert_into(
-                alloc,
-                statement,
-                columns.as_slice(),
-                names.as_slice(),
-                values,
-                tables,
-                calls,
-            )
+            all = names_of(alloc, columns.as_slice())?;
+            &all
         }
-    }
+    };
+    insert_into(
+        alloc,
+        statement,
+        columns.as_slice(),
+        names.as_slice(),
+        values,
+        tables,
+        calls,
+    )
 }

@@ -144,27 +144,21 @@ pub(crate) fn select<T: Tables>(
         (keeping (T.stored tables.new) (T.faults tables.new) (T.answers tables.new) calls.new) }
 {
     let columns = opened(alloc, tables, calls, statement.table.as_slice())?;
-    match &statement.columns {
-        Some(names) => select_from(
-            alloc,
-            statement,
-            columns.as_slice(),
-            names.as_slice(),
-            values,
-            tables,
-            calls,
-        ),
+    let all;
+    let names = match &statement.columns {
+        Some(names) => names,
         None => {
-            let names = names_of(alloc, columns.as_slice())?;
-            select_from(
-                alloc,
-                statement,
-                columns.as_slice(),
-                names.as_slice(),
-                values,
-                tables,
-                calls,
-            )
+            all = names_of(alloc, columns.as_slice())?;
+            &all
         }
-    }
+    };
+    select_from(
+        alloc,
+        statement,
+        columns.as_slice(),
+        names.as_slice(),
+        values,
+        tables,
+        calls,
+    )
 }
