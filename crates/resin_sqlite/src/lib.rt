@@ -6,6 +6,7 @@
 
 mod cells;
 mod fault;
+mod opening;
 mod reads;
 mod schema;
 mod statements;

@@ -2,6 +2,7 @@
 ghost use Rattle.resin_base.specs.Causes.{HasCause};
 
 use crate::fault::DatabaseFault;
+use crate::opening::connected;
 use crate::{reads, schema, writes};
 use resin_base::{Cells, Columns, KeepFault, Rows, Tables};
 use sqlite::{Alter, Connection, File, FileStore};
@@ -41,7 +42,7 @@ impl SqliteTables {
     /// Opens a database file at a path of the system, or makes it. A new file, and one that holds nothing, gets the tables of the schema.
     /// A file that can't be opened, is no database, is in use, or holds other tables is left as it is.
     pub fn open(rt: &HostRuntime, path: &str) -> Result<SqliteTables, DatabaseFault> {
-        let conn = settled(Connection::open(rt, path)?)?;
+        let conn = settled(connected(rt, path)?)?;
         Ok(SqliteTables {
             alloc: rt.alloc(),
             conn,
