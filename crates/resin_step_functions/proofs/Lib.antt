@@ -1,5 +1,6 @@
 pub mod Guarded
 pub mod Marks
+pub mod Numbers
 pub mod Spent
 pub mod step_parts_lemmas
 -- Passed on to the crates above, which list this one alone.

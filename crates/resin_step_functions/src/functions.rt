@@ -2,7 +2,8 @@
 ghost use Rattle.resin_step_parts.specs.Under.builtin.Calls.{cost};
 ghost use Rattle.resin_step_parts.specs.Under.builtin.Names.{builtin_named};
 ghost use Rattle.resin_step_parts.specs.Under.builtin.Rows.{mapped};
-ghost use Rattle.resin_step_parts.specs.Under.builtin.Turns.{integer_in_text, turned_array, turned_integer, turned_into, turned_text, turned_text_or_array};
+ghost use Rattle.resin_step_parts.specs.Under.builtin.Turns.{integer_in_text, turned_array, turned_integer};
+ghost use Rattle.resin_step_parts.specs.Under.builtin.Turns.{turned_into, turned_text, turned_text_or_array};
 ghost use Rattle.resin_step_parts.specs.Under.meaning_forms.Functions.{kinds_of, take_all, work};
 ghost use Rattle.resin_step_parts.specs.Under.meaning_forms.Parts.{thrown_new};
 ghost use Rattle.resin_step_parts.specs.Under.meaning_forms.Runs.{Runs};
@@ -143,8 +144,8 @@ fn turned_text_or_array(alloc: Global, v: &Value) -> Result<Value, CallStop>
     }
 }
 
-/// A value as its kind. TypeError is thrown exactly where the kind doesn't take the value; FloatNeeded comes exactly for a text in a float form where an
-/// integer is wanted.
+/// A value as its kind. TypeError is thrown exactly where the kind doesn't take the value; FloatNeeded comes exactly for a text in a float
+/// form where an integer is wanted.
 pub fn turned_into(alloc: Global, kind: ArgKind, v: &Value) -> Result<Value, CallStop>
     ensures { GivesOrNoMemory (seen_answer result) (turned_into kind (tree_of v.now)) }
 {

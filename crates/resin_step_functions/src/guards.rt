@@ -78,8 +78,8 @@ fn guarded_page(alloc: Global, m: &Machine, text: &LText, class: &LText) -> Resu
     Ok(Value::Bool(is_pass(verdict)))
 }
 
-/// `sql_structure`, once its arguments are texts: `true` exactly where the text is a statement, and each byte that carries a policy of the class stands in
-/// a text or integer literal of it. UndefinedClass comes exactly for an unknown class.
+/// `sql_structure`, once its arguments are texts: `true` exactly where the text is a statement, and each byte that carries a policy of the
+/// class stands in a text or integer literal of it. UndefinedClass comes exactly for an unknown class.
 pub fn query_structure(
     alloc: Global,
     m: &mut Machine,
@@ -97,8 +97,8 @@ pub fn query_structure(
     guarded_query(alloc, m, text, class)
 }
 
-/// `html_structure`, once its arguments are texts: `true` exactly where the text is a page, and each byte that carries a policy of the class is data, or
-/// stands in the value of a harmless attribute. UndefinedClass comes exactly for an unknown class.
+/// `html_structure`, once its arguments are texts: `true` exactly where the text is a page, and each byte that carries a policy of the
+/// class is data, or stands in the value of a harmless attribute. UndefinedClass comes exactly for an unknown class.
 pub fn page_structure(
     alloc: Global,
     m: &mut Machine,

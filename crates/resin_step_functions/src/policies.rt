@@ -1,9 +1,11 @@
 //! Functions that work on the state: they mark data with policies, and set filters.
-ghost use Rattle.resin_step_parts.specs.Under.meaning_forms.Functions.{channel_among, channel_for, class_name, nameable, number_in, object_under, policies_of, state_work, with_policy, without_policy};
+ghost use Rattle.resin_step_parts.specs.Under.meaning_forms.Functions.{channel_among, channel_for, class_name, nameable, number_in};
+ghost use Rattle.resin_step_parts.specs.Under.meaning_forms.Functions.{object_under, policies_of, state_work, with_policy, without_policy};
 ghost use Rattle.resin_step_parts.specs.Under.meaning_forms.Merges.{with_answer};
 ghost use Rattle.resin_step_parts.specs.Under.meaning_forms.Runs.{Runs, on_ok};
-ghost use Rattle.resin_step_parts.specs.Under.meaning_forms.declared.callee.StateFunction.TheVariants.{PolicyAdd, PolicyRemove, PolicyGet, FilterAdd, FilterRemove, FilterFunctionAdd};
-ghost use Rattle.resin_step_parts.specs.Under.label.Sets.{numbers};
+ghost use Rattle.resin_step_parts.specs.Under.meaning_forms.declared.callee.StateFunction.TheVariants.{PolicyAdd, PolicyRemove, PolicyGet};
+ghost use Rattle.resin_step_parts.specs.Under.meaning_forms.declared.callee.StateFunction.TheVariants.{FilterAdd, FilterRemove, FilterFunctionAdd};
+ghost use Rattle.resin_step_parts.specs.Under.label.Sets.{numbers, set_of};
 ghost use Rattle.resin_step_parts.specs.Under.value.Seen.{tree_of, trees_of};
 ghost use Rattle.resin_step_parts.specs.Under.value.Trees.{text};
 ghost use Rattle.std.specs.Prelude.{IfOk, [], ◌∷◌, ◌≡◌};
@@ -86,19 +88,31 @@ fn without_policy(alloc: Global, m: &Machine, v: &Value, p: u32) -> Result<Value
     }
 }
 
+// The set of these numbers, from those of each half: so a number is copied once for each halving, and not once for each number.
+fn set_of(alloc: Global, numbers: &[u32]) -> Result<PSet, AllocError>
+    ensures { IfOk result (λ s. s ≡ set_of numbers.now) }
+{
+    match numbers {
+        [] => Ok(PSet::empty()),
+        [only] => {
+            let one = PSet::empty().with(alloc, *only)?;
+            Ok(one)
+        }
+        _ => {
+            let half = numbers.len() / 2;
+            let front = set_of(alloc, &numbers[..half])?;
+            let behind = set_of(alloc, &numbers[half..])?;
+            front.union(alloc, &behind)
+        }
+    }
+}
+
 // The policies of a text as one set.
 fn policies_of(alloc: Global, t: &LText) -> Result<PSet, AllocError>
     ensures { IfOk result (λ s. numbers s ≡ policies_of (text t.now)) }
 {
     let list = t.policies_in_order(alloc)?;
-    let policies = list.as_slice();
-    let mut set = PSet::empty();
-    let mut i = policies.len();
-    while i > 0 {
-        i -= 1;
-        set = set.with(alloc, policies[i])?;
-    }
-    Ok(set)
+    set_of(alloc, list.as_slice())
 }
 
 // The policies of a value as one set.
@@ -195,8 +209,8 @@ fn class_name(alloc: Global, m: &mut Machine, v: &Value) -> Result<Value, Stop>
     Ok(Value::Text(plain(alloc, m.name_of(*o))?))
 }
 
-/// The work of a function that works on the state, once its arguments are turned into their kinds: BadOperand, ValueError and TypeError come as the function
-/// says, and ArgumentCountError is thrown where arguments are missing.
+/// The work of a function that works on the state, once its arguments are turned into their kinds: BadOperand, ValueError and TypeError
+/// come as the function says, and ArgumentCountError is thrown where arguments are missing.
 pub fn state_work(
     alloc: Global,
     m: &mut Machine,
