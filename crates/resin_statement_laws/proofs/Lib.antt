@@ -1,0 +1,12 @@
+pub mod Calls
+pub mod Cells
+pub mod Following
+pub mod Stores
+pub mod Statements
+pub mod Runs
+pub mod Fronts
+pub mod Origins
+pub mod More
+pub mod Programs
+pub mod Kept
+pub mod Literals
