@@ -74,7 +74,8 @@ impl<
     // A text as its filters give it; another value stays.
     fn filtered_text(&self, run: &mut Run<F, T>, context: &Value, v: &Value) -> Result<Value, Stop>
         requires { Nests F.Files T.Tables N.pre N.post self.now.by.now }
-        ensures { Performs F.Files T.Tables (inputs.filtered_text (means self.now.by.now) context.now (tree_of v.now)) run.old (on_ok tree_of result) run.new }
+        ensures { Performs F.Files T.Tables (inputs.filtered_text (means self.now.by.now) context.now (tree_of v.now))
+            run.old (on_ok tree_of result) run.new }
     {
         match v {
             Value::Text(t) => {
@@ -110,7 +111,8 @@ impl<
         v: &Value,
     ) -> Result<Value, Stop>
         requires { Nests F.Files T.Tables N.pre N.post self.now.by.now }
-        ensures { Performs F.Files T.Tables (inputs.filtered_input (means self.now.by.now) name.now key.now (tree_of v.now)) run.old (on_ok tree_of result) run.new }
+        ensures { Performs F.Files T.Tables (inputs.filtered_input (means self.now.by.now) name.now key.now (tree_of v.now))
+            run.old (on_ok tree_of result) run.new }
     {
         let context = input_context(self.by.alloc, name, key)?;
         match v {
@@ -138,8 +140,8 @@ impl<
     }
 }
 
-/// Sets `$_GET`, `$_POST`, `$_COOKIE` and `$_SERVER`, once each value passed the filters of inputs, in this order. The value at a key may be an array of texts: then the filters are
-/// asked about each of them, and are told that key.
+/// Sets `$_GET`, `$_POST`, `$_COOKIE` and `$_SERVER`, once each value passed the filters of inputs, in this order. The value at a key may
+/// be an array of texts: then the filters are asked about each of them, and are told that key.
 ///
 /// # Errors
 ///

@@ -5,7 +5,7 @@ ghost use Rattle.resin_eval_calls.specs.Under.meaning_forms.Inputs.{set_inputs a
 ghost use Rattle.resin_eval_calls.specs.Under.meaning_forms.Programs.{evals, function_call, most_open, program};
 ghost use Rattle.resin_interp.specs.Lent.{lent};
 ghost use Rattle.resin_interp.specs.Pages.{end_buffers as buffers_ended, read_named, write_page as page_written};
-ghost use Rattle.resin_eval_calls.specs.Under.meaning.Runs.{Does, files_seen, seen, world};
+ghost use Rattle.resin_eval_calls.specs.Under.eval_nested.Running.{Performs};
 ghost use Rattle.std.specs.Fn.{FnOnceReturnsAtMut};
 ghost use Rattle.std.specs.Prelude.{false, ◌≡◌};
 
@@ -65,9 +65,10 @@ pub fn with_run<F, T, R, C: FnOnce(&mut Run<F, T>) -> R>(
     })
 }
 
-/// Runs a file: its functions and classes are declared in their order, then its statements run. It answers how the program ends: behind its last statement, by `return` or by
-/// `exit`; or why it doesn't: an exception that nothing caught, a fault with its line, a keeper call that failed, or want of memory. Then the journal, what the
-/// keepers hold and the calls made stand at a moment that the program goes through; with every other end all is as the program leaves it.
+/// Runs a file: its functions and classes are declared in their order, then its statements run. It answers how the program ends: behind its
+/// last statement, by `return` or by `exit`; or why it doesn't: an exception that nothing caught, a fault with its line, a keeper call that
+/// failed, or want of memory. Then the journal, what the keepers hold and the calls made stand at a moment that the program goes through;
+/// with every other end all is as the program leaves it.
 pub fn run_program<F: Files, T: Tables>(
     alloc: Global,
     m: &mut Machine,
@@ -76,13 +77,14 @@ pub fn run_program<F: Files, T: Tables>(
     tables: &mut T,
     calls: &mut Calls,
 ) -> Result<Flow, Stop>
-    ensures { Does (program p.now) (world m.old (files_seen (F.stored files.old) (F.faults files.old) (F.answers files.old)) (seen (T.stored tables.old) (T.faults tables.old) (T.answers tables.old)) calls.old) result (world m.new (files_seen (F.stored files.new) (F.faults files.new) (F.answers files.new)) (seen (T.stored tables.new) (T.faults tables.new) (T.answers tables.new)) calls.new) }
+    ensures { Performs F.Files T.Tables (program p.now)
+        (lent m.old files.old tables.old calls.old) result (lent m.new files.new tables.new calls.new) }
 {
     with_run(m, files, tables, calls, |run| perform(alloc, run, p))
 }
 
-/// Calls a function by its name with these arguments, as a call in a script does whose arguments are evaluated; UndefinedFunction comes where there is none of the name. It
-/// stops as `run_program` does.
+/// Calls a function by its name with these arguments, as a call in a script does whose arguments are evaluated; UndefinedFunction comes
+/// where there is none of the name. It stops as `run_program` does.
 pub fn call_function<F: Files, T: Tables>(
     alloc: Global,
     m: &mut Machine,
@@ -92,7 +94,8 @@ pub fn call_function<F: Files, T: Tables>(
     tables: &mut T,
     calls: &mut Calls,
 ) -> Result<Value, Stop>
-    ensures { Does (function_call name.now args.now) (world m.old (files_seen (F.stored files.old) (F.faults files.old) (F.answers files.old)) (seen (T.stored tables.old) (T.faults tables.old) (T.answers tables.old)) calls.old) result (world m.new (files_seen (F.stored files.new) (F.faults files.new) (F.answers files.new)) (seen (T.stored tables.new) (T.faults tables.new) (T.answers tables.new)) calls.new) }
+    ensures { Performs F.Files T.Tables (function_call name.now args.now)
+        (lent m.old files.old tables.old calls.old) result (lent m.new files.new tables.new calls.new) }
 {
     with_run(
         m,
@@ -103,8 +106,8 @@ pub fn call_function<F: Files, T: Tables>(
     )
 }
 
-/// A text that was read at a path passes the filters of a channel by which nothing leaves, as `file` and `code`. The path of a source text counts as imported then. It stops
-/// as `run_program` does.
+/// A text that was read at a path passes the filters of a channel by which nothing leaves, as `file` and `code`. The path of a source text
+/// counts as imported then. It stops as `run_program` does.
 pub fn read_through<F: Files, T: Tables>(
     alloc: Global,
     m: &mut Machine,
@@ -116,7 +119,8 @@ pub fn read_through<F: Files, T: Tables>(
     calls: &mut Calls,
 ) -> Result<LText, Stop>
     requires { is_leaving channel ≡ false }
-    ensures { Does (read_named channel path.now text.now) (world m.old (files_seen (F.stored files.old) (F.faults files.old) (F.answers files.old)) (seen (T.stored tables.old) (T.faults tables.old) (T.answers tables.old)) calls.old) result (world m.new (files_seen (F.stored files.new) (F.faults files.new) (F.answers files.new)) (seen (T.stored tables.new) (T.faults tables.new) (T.answers tables.new)) calls.new) }
+    ensures { Performs F.Files T.Tables (read_named channel path.now text.now)
+        (lent m.old files.old tables.old calls.old) result (lent m.new files.new tables.new calls.new) }
 {
     with_run(
         m,
@@ -136,7 +140,8 @@ pub fn write_page<F: Files, T: Tables>(
     tables: &mut T,
     calls: &mut Calls,
 ) -> Result<(), Stop>
-    ensures { Does (page_written text.now) (world m.old (files_seen (F.stored files.old) (F.faults files.old) (F.answers files.old)) (seen (T.stored tables.old) (T.faults tables.old) (T.answers tables.old)) calls.old) result (world m.new (files_seen (F.stored files.new) (F.faults files.new) (F.answers files.new)) (seen (T.stored tables.new) (T.faults tables.new) (T.answers tables.new)) calls.new) }
+    ensures { Performs F.Files T.Tables (page_written text.now)
+        (lent m.old files.old tables.old calls.old) result (lent m.new files.new tables.new calls.new) }
 {
     with_run(
         m,
@@ -159,7 +164,8 @@ pub fn set_inputs<F: Files, T: Tables>(
     tables: &mut T,
     calls: &mut Calls,
 ) -> Result<(), Stop>
-    ensures { Does (inputs_set (evals most_open) get.now post.now cookie.now server.now) (world m.old (files_seen (F.stored files.old) (F.faults files.old) (F.answers files.old)) (seen (T.stored tables.old) (T.faults tables.old) (T.answers tables.old)) calls.old) result (world m.new (files_seen (F.stored files.new) (F.faults files.new) (F.answers files.new)) (seen (T.stored tables.new) (T.faults tables.new) (T.answers tables.new)) calls.new) }
+    ensures { Performs F.Files T.Tables (inputs_set (evals most_open) get.now post.now cookie.now server.now)
+        (lent m.old files.old tables.old calls.old) result (lent m.new files.new tables.new calls.new) }
 {
     with_run(
         m,
@@ -170,8 +176,8 @@ pub fn set_inputs<F: Files, T: Tables>(
     )
 }
 
-/// The open output buffers are closed, and what they hold leaves as one write on `http`, where any is open. `TextTooLong` comes where all their texts together pass 16,777,216
-/// bytes; else it stops as `run_program` does.
+/// The open output buffers are closed, and what they hold leaves as one write on `http`, where any is open. `TextTooLong` comes where all
+/// their texts together pass 16,777,216 bytes; else it stops as `run_program` does.
 pub fn end_buffers<F: Files, T: Tables>(
     alloc: Global,
     m: &mut Machine,
@@ -179,7 +185,8 @@ pub fn end_buffers<F: Files, T: Tables>(
     tables: &mut T,
     calls: &mut Calls,
 ) -> Result<(), Stop>
-    ensures { Does buffers_ended (world m.old (files_seen (F.stored files.old) (F.faults files.old) (F.answers files.old)) (seen (T.stored tables.old) (T.faults tables.old) (T.answers tables.old)) calls.old) result (world m.new (files_seen (F.stored files.new) (F.faults files.new) (F.answers files.new)) (seen (T.stored tables.new) (T.faults tables.new) (T.answers tables.new)) calls.new) }
+    ensures { Performs F.Files T.Tables buffers_ended
+        (lent m.old files.old tables.old calls.old) result (lent m.new files.new tables.new calls.new) }
 {
     with_run(
         m,
@@ -190,7 +197,8 @@ pub fn end_buffers<F: Files, T: Tables>(
     )
 }
 
-/// Takes one tick for each 256 bytes of so many, rounded down. FuelSpent, at the machine's line, comes exactly where that is more than what is left; then none is taken.
+/// Takes one tick for each 256 bytes of so many, rounded down. FuelSpent, at the machine's line, comes exactly where that is more than what
+/// is left; then none is taken.
 pub fn charge_bytes(m: &mut Machine, bytes: u64) -> Result<(), Stop>
     ensures { Acts (charge_of bytes) m.old result m.new }
 {

@@ -31,7 +31,8 @@ use resin_eval_calls::under::value::Value;
 use std::alloc::{AllocError, Global};
 use std::marker::PhantomData;
 
-/// A text leaves as one write on `http`, open buffers or not: the filters of the channel are asked, then its policies, and then it goes out. It stops as `perform` does.
+/// A text leaves as one write on `http`, open buffers or not: the filters of the channel are asked, then its policies, and then it goes
+/// out. It stops as `perform` does.
 pub fn write_page<F: Files, T: Tables>(
     alloc: Global,
     run: &mut Run<F, T>,

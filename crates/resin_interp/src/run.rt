@@ -1,5 +1,6 @@
-//! Evaluation, by walking the tree. `room` is how many more evaluations may be open. What nests in an evaluation is evaluated by a function value, so that each form
-//! is proved on its own; `evaluation` alone recurs, by giving itself, with less room each time. A source text runs its statements with the room that it has.
+//! Evaluation, by walking the tree. `room` is how many more evaluations may be open. What nests in an evaluation is evaluated by a function
+//! value, so that each form is proved on its own; `evaluation` alone recurs, by giving itself, with less room each time. A source text runs
+//! its statements with the room that it has.
 ghost use Rattle.resin_eval_calls.specs.Under.meaning_forms.Expressions.{item_key, items, turned_key};
 ghost use Rattle.resin_eval_calls.specs.Under.meaning_forms.Forms as form;
 ghost use Rattle.resin_eval_calls.specs.Under.meaning_forms.Invoke.{block};
@@ -36,8 +37,9 @@ use resin_tree::{Access, ArrayItem, Expr, Item, Operation, Program, Stmt, Test};
 use std::alloc::Global;
 use std::marker::PhantomData;
 
-/// Evaluates an expression or a statement where `room` more evaluations may be open. It takes one of them and a tick, and gives itself to what nests further in. DepthSpent
-/// comes exactly where none is left. A source text takes none, and its statements have the same room. Else it stops as what it evaluates does: by an exception, `exit`, a script fault with its line, a keeper call that failed, or want of
+/// Evaluates an expression or a statement where `room` more evaluations may be open. It takes one of them and a tick, and gives itself to
+/// what nests further in. DepthSpent comes exactly where none is left. A source text takes none, and its statements have the same room.
+/// Else it stops as what it evaluates does: by an exception, `exit`, a script fault with its line, a keeper call that failed, or want of
 /// memory, with which the journal, what the keepers hold and the calls made stand at a moment that the evaluation goes through.
 #[cycle(walk)]
 pub fn evaluation<F: Files, T: Tables>(
@@ -80,7 +82,8 @@ pub fn evaluation<F: Files, T: Tables>(
     }
 }
 
-/// The functions and classes of a file are declared in their order, then its statements run, where `room` more evaluations may be open. It stops as `evaluation` does.
+/// The functions and classes of a file are declared in their order, then its statements run, where `room` more evaluations may be open. It
+/// stops as `evaluation` does.
 #[cycle(walk)]
 pub fn run_file<F: Files, T: Tables>(
     alloc: Global,
@@ -154,7 +157,8 @@ impl<
         self.expression(run, e)
     }
 
-    /// The value of an expression that is only asked for, as `isset` asks, in which `room` more evaluations may be open: what isn't there is null. It stops as `evaluation` does.
+    /// The value of an expression that is only asked for, as `isset` asks, in which `room` more evaluations may be open: what isn't there
+    /// is null. It stops as `evaluation` does.
     pub fn soft_by(&self, run: &mut Run<F, T>, e: &Expr) -> Result<Value, Stop>
         requires { Nests F.Files T.Tables N.pre N.post self.now.by.now }
         ensures { Performs F.Files T.Tables ((evals (suc self.now.by.now.room)).soft e.now) run.old result run.new }

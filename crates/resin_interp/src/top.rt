@@ -43,9 +43,10 @@ fn program_end(end: Result<Course, Stop>) -> Result<Flow, Stop>
     }
 }
 
-/// Runs a file: its functions and classes are declared in their order, then its statements run. It answers how the program ends: behind its last statement, by `return` or by
-/// `exit`; or why it doesn't: an exception that nothing caught, a fault with its line, a keeper call that failed, or want of memory. Then the journal, what the
-/// keepers hold and the calls made stand at a moment that the program goes through; with every other end all is as the program leaves it.
+/// Runs a file: its functions and classes are declared in their order, then its statements run. It answers how the program ends: behind its
+/// last statement, by `return` or by `exit`; or why it doesn't: an exception that nothing caught, a fault with its line, a keeper call that
+/// failed, or want of memory. Then the journal, what the keepers hold and the calls made stand at a moment that the program goes through;
+/// with every other end all is as the program leaves it.
 pub fn perform<F: Files, T: Tables>(
     alloc: Global,
     run: &mut Run<F, T>,
@@ -68,8 +69,8 @@ fn copied(alloc: Global, args: &[Value]) -> Result<Values, AllocError>
     Ok(own)
 }
 
-/// Calls a function by its name with these arguments, as a call in a script does whose arguments are evaluated; UndefinedFunction comes where there is none of the name. It
-/// stops as `perform` does.
+/// Calls a function by its name with these arguments, as a call in a script does whose arguments are evaluated; UndefinedFunction comes
+/// where there is none of the name. It stops as `perform` does.
 pub fn perform_call<F: Files, T: Tables>(
     alloc: Global,
     run: &mut Run<F, T>,

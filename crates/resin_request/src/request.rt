@@ -2,7 +2,7 @@
 ghost use Rattle.std.specs.Prelude.{Some};
 ghost use Rattle.std.specs.Option.{option_map};
 ghost use Rattle.resin_inputs.specs.Under.lstr.Texts.{bytes_of};
-ghost use Rattle.resin_interp.specs.Under.meaning.Runs.{Does, files_seen, seen, world};
+ghost use Rattle.resin_interp.specs.Lent.{lent};
 ghost use Rattle.resin_interp.specs.Under.eval_nested.Running.{Performs};
 ghost use Rattle.resin_interp.specs.Under.store.Entries.{lift};
 ghost use Rattle.resin_request.specs.Requests.{put_inputs, request_program, run_boot, run_found, run_script, send_file};
@@ -179,7 +179,8 @@ fn serve_in_session<F: Files, T: Tables>(
     path: &[u8],
     e: Entry,
 ) -> Result<(), Stop>
-    ensures { Performs F.Files T.Tables (in_session (option_map (λ n. n.now) session.entry) (serve_and_end path.now (lift e))) run.old result run.new }
+    ensures { Performs F.Files T.Tables (in_session (option_map (λ n. n.now) session.entry) (serve_and_end path.now (lift e)))
+        run.old result run.new }
 {
     match session {
         Some(name) => serve_named(alloc, run, scripts, name, path, e),
@@ -259,9 +260,8 @@ pub fn run_request<F: Files, T: Tables>(
     tables: &mut T,
     calls: &mut Calls,
 ) -> Result<Finish, Stop>
-    ensures { Does (request_program path.now inputs)
-        (world m.old (files_seen (F.stored files.old) (F.faults files.old) (F.answers files.old)) (seen (T.stored tables.old) (T.faults tables.old) (T.answers tables.old)) calls.old) result
-        (world m.new (files_seen (F.stored files.new) (F.faults files.new) (F.answers files.new)) (seen (T.stored tables.new) (T.faults tables.new) (T.answers tables.new)) calls.new) }
+    ensures { Performs F.Files T.Tables (request_program path.now inputs)
+        (lent m.old files.old tables.old calls.old) result (lent m.new files.new tables.new calls.new) }
 {
     with_run(
         m,

@@ -78,7 +78,9 @@ RunSame trace trace' = (R : Meaning) (K : List ℕ) (old new : World) → RunOf 
 
 -- two traces that ask the same on the same connections, in the same order, have the same runs
 abbrev pub SameRuns : Type 0
-SameRuns = (trace trace' rest rest' : List ℕ) (xs ys : List (TraceEvent × ℕ)) → Records trace xs rest → Records trace' ys rest' → AskSame xs ys → RunSame trace trace'
+SameRuns =
+    (trace trace' rest rest' : List ℕ) (xs ys : List (TraceEvent × ℕ)) → Records trace xs rest → Records trace' ys rest'
+    → AskSame xs ys → RunSame trace trace'
 
 -- each record is on this connection
 abbrev pub AreOn : ℕ → List TraceEvent → Type 0

@@ -42,7 +42,8 @@ pub record IsLine (text : List ℕ) : Type 0 where
 -- what a denial puts into the log is a line, where classes are told by names; other events put nothing there
 abbrev pub EachIsALine : Type 0
 EachIsALine =
-    (number : ℕ) (e : Event) → ((is_denial e ≡ true) → TellsNames e → IsLine (unwrap_or (line_of number e) [])) × (is_denial e ≡ false → unwrap_or (line_of number e) [] ≡ [])
+    (number : ℕ) (e : Event) → ((is_denial e ≡ true) → TellsNames e → IsLine (unwrap_or (line_of number e) []))
+    × (is_denial e ≡ false → unwrap_or (line_of number e) [] ≡ [])
 
 -- a run each of whose answers obeys the access law has as many lines in its log as its answers have denials
 abbrev pub LogTellsDenials : Type 0

@@ -43,9 +43,11 @@ Exchanges R =
 
 -- A run over all these answers is one over `done`, then two that give these replies, and then one over `later` from this state, with the numbers
 -- that follow.
-pub record IsRunOf (R : Meaning) (K : List ℕ) (s : St) (number : ℕ) (all done : List Owed) (a b : Reply) (behind : St) (later : List Owed) : Type 0 where
+pub record IsRunOf (R : Meaning) (K : List ℕ) (s : St) (number : ℕ) (all done : List Owed) (a b : Reply) (behind : St)
+    (later : List Owed) : Type 0 where
   pub bytes : bytes_of R K s number all ≡ bytes_of R K s number done ++ tagged a ++ tagged b ++ bytes_of R K behind (number + length done + 2) later
-  pub calls : calls_of R K s number all ≡ calls_of R K s number done ++ a.is.calls ++ b.is.calls ++ calls_of R K behind (number + length done + 2) later
+  pub calls : calls_of R K s number all ≡ calls_of R K s number done ++ a.is.calls ++ b.is.calls
+      ++ calls_of R K behind (number + length done + 2) later
   pub after : after_of R K s number all ≡ after_of R K behind (number + length done + 2) later
 
 -- Two runs in which two neighbours, behind `done`, come in either order, where a and b are their replies in the one and b' and a' in the other: only

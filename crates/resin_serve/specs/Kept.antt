@@ -44,7 +44,8 @@ keepers made failed file_answers file_faults table_answers table_faults = record
 abbrev pub RoseBy : Keepers → Keepers → ℕ → Type 0
 RoseBy old new count =
     (old.file_faults ≤ new.file_faults) × (old.table_faults ≤ new.table_faults)
-    × (new.file_faults < last_count → new.table_faults < last_count → (old.file_faults + old.table_faults) + count ≤ new.file_faults + new.table_faults)
+    × (new.file_faults < last_count → new.table_faults < last_count
+    → (old.file_faults + old.table_faults) + count ≤ new.file_faults + new.table_faults)
 
 -- calls were made, in order, and they are numbered, listed where they failed, and told
 pub record Kept (old new : Keepers) : Type 0 where

@@ -2,6 +2,7 @@ pub mod Meaning
 pub mod Ran
 pub mod Gives
 pub mod Kept
+pub mod Outside
 pub mod Lines
 pub mod Records
 pub mod Top

@@ -45,7 +45,8 @@ events [] = []
 events (e ∷ es) = e.0 ∷ events es
 
 -- records were read, and their answers were served
-pub record WentOn (g : Given) (R : Meaning) (b : ℕ) (seen : List TraceEvent) (read read' : Seen) (n n' made : ℕ) (failed : List ℕ) (connections : List (Option Waiting)) (old new : World) : Type 0 where
+pub record WentOn (g : Given) (R : Meaning) (b : ℕ) (seen : List TraceEvent) (read read' : Seen) (n n' made : ℕ) (failed : List ℕ)
+    (connections : List (Option Waiting)) (old new : World) : Type 0 where
   pub es : List (TraceEvent × ℕ)
   pub reads : (trace : List ℕ) (handed : List (TraceEvent × ℕ)) → HasRead trace handed read → HasRead trace (handed ++ es) read'
   pub ends : read'.place + length read'.rest ≡ read.place + length read.rest
@@ -68,6 +69,7 @@ Stands TooLong s = NoRecord s.rest × CanGo s.rest × (s.over ≡ true)
 Stands ReadyFault s = ⊤
 Stands ReadyMemory s = ⊤
 
-pub record Went (r : Ready) (R : Meaning) (b : ℕ) (seen : List TraceEvent) (read read' : Seen) (n n' made : ℕ) (failed : List ℕ) (connections : List (Option Waiting)) (old new : World) : Type 0 where
+pub record Went (r : Ready) (R : Meaning) (b : ℕ) (seen : List TraceEvent) (read read' : Seen) (n n' made : ℕ) (failed : List ℕ)
+    (connections : List (Option Waiting)) (old new : World) : Type 0 where
   pub on : WentOn (given_of r) R b seen read read' n n' made failed connections old new
   pub stands : Stands r read'

@@ -32,7 +32,8 @@ Near taken a = length taken ≤ a.place + 65535
 
 -- the run of the records of a trace came so far
 abbrev pub RunOf : Given → (Owed → Type 0) → Meaning → List ℕ → List ℕ → World → World → Type 0
-RunOf g Q R K trace old new = (records : List (TraceEvent × ℕ)) (rest : List ℕ) → Records trace records rest → Ran g Q R K 1 (order [] records) old new
+RunOf g Q R K trace old new =
+    (records : List (TraceEvent × ℕ)) (rest : List ℕ) → Records trace records rest → Ran g Q R K 1 (order [] records) old new
 
 -- how a run over a trace ends, of which these bytes were taken: after a good, a bad and a too long trace all its records were served; after
 -- a read fault those that stand whole in what was taken; a write fault and want of memory stop it
@@ -76,7 +77,8 @@ ReadCause StatusMemory before now = now ≡ before
 ReadCause AuditRefused before now = now ≡ before
 
 -- the records of what was taken so far were read, and their answers were served
-pub record RunsSo (R : Meaning) (left left' : Option (List ℕ)) (reader : Seen) (n made : ℕ) (failed : List ℕ) (connections : List (Option Waiting)) (old new : World) : Type 0 where
+pub record RunsSo (R : Meaning) (left left' : Option (List ℕ)) (reader : Seen) (n made : ℕ) (failed : List ℕ)
+    (connections : List (Option Waiting)) (old new : World) : Type 0 where
   pub taken : List ℕ
   pub es : List (TraceEvent × ℕ)
   pub told : Took left left' taken
@@ -101,7 +103,8 @@ Finished s AuditRefused = ⊥
 
 -- after a run to the end of a good trace, the next answer's number tells how many answers the trace has
 abbrev pub Numbers : Status → List ℕ → ℕ → Type 0
-Numbers StatusOk trace number = (records : List (TraceEvent × ℕ)) (rest : List ℕ) → Records trace records rest → number ≡ 1 + length (order [] records)
+Numbers StatusOk trace number =
+    (records : List (TraceEvent × ℕ)) (rest : List ℕ) → Records trace records rest → number ≡ 1 + length (order [] records)
 Numbers Usage trace number = ⊤
 Numbers (BadTrace offset) trace number = ⊤
 Numbers ReadFault trace number = ⊤

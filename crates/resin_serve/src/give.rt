@@ -2,7 +2,8 @@
 ghost use Rattle.std.specs.Prelude.{◌≡◌, ℕ, Option};
 ghost use Rattle.resin_site.specs.Keeping.{Answers, Store};
 ghost use Rattle.resin_serve.specs.Ran.{world};
-ghost use Rattle.resin_serve.specs.Gives.{Gave, GaveAll, Caused, CausedIn, counts, sinks, three};
+ghost use Rattle.resin_serve.specs.Gives.{Gave, GaveAll, Caused, CausedIn, counts, three};
+ghost use Rattle.resin_serve.specs.Outside.{sinks_of};
 
 use resin_site::under::base::{KeepFault, Sink};
 
@@ -46,9 +47,8 @@ pub(crate) fn give_three<L: Sink, M: Sink, O: Sink>(
     ensures gave { (store store' : Option Store) (told told' : Answers) (made made' : ℕ)
         → GaveAll result (three lines.now mails.now record.now) (world (L.written log.old) (M.written mail.old) (O.written out.old) store told made)
         (world (L.written log.new) (M.written mail.new) (O.written out.new) store' told' made') }
-    ensures cause { CausedIn result
-        (sinks (counts (L.faults log.old) (L.stalls log.old)) (counts (M.faults mail.old) (M.stalls mail.old)) (counts (O.faults out.old) (O.stalls out.old)))
-        (sinks (counts (L.faults log.new) (L.stalls log.new)) (counts (M.faults mail.new) (M.stalls mail.new)) (counts (O.faults out.new) (O.stalls out.new))) }
+    ensures cause { CausedIn result (sinks_of L.Sink M.Sink O.Sink log.old mail.old out.old)
+        (sinks_of L.Sink M.Sink O.Sink log.new mail.new out.new) }
 {
     match give_all(log, lines) {
         Given::Whole => match give_all(mail, mails) {

@@ -41,8 +41,8 @@ pub fn recorded_runs()
     ensures { RecordsPass }
 {}
 
-/// Two neighbouring answers of a run that leave each other's files and tables alone may come in either order: they are the same but for their numbers,
-/// and all else that the run gives, its keeper calls and what it leaves are the same.
+/// Two neighbouring answers of a run that leave each other's files and tables alone may come in either order: they are the same but for
+/// their numbers, and all else that the run gives, its keeper calls and what it leaves are the same.
 pub fn exchanged_runs()
     ensures { ExchangedRuns }
 {}

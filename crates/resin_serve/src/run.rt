@@ -5,9 +5,10 @@ ghost use Rattle.resin_trace.specs.declared.event.TraceEvent.{TraceEvent};
 ghost use Rattle.resin_trace.specs.Lines.{at};
 ghost use Rattle.resin_serve.specs.declared.run.Service.{Service};
 ghost use Rattle.resin_serve.specs.Ran.{Ran, world};
-ghost use Rattle.resin_serve.specs.Gives.{CausedIn, GaveAll, counts, sinks, three};
-ghost use Rattle.resin_serve.specs.Kept.{Kept, keepers};
-ghost use Rattle.resin_site.specs.Keeping.{Answers, Store, Later, answers, store_of};
+ghost use Rattle.resin_serve.specs.Gives.{CausedIn, GaveAll, three};
+ghost use Rattle.resin_serve.specs.Kept.{Kept};
+ghost use Rattle.resin_serve.specs.Outside.{keepers_of, sinks_of, world_of};
+ghost use Rattle.resin_site.specs.Keeping.{Answers, Store, Later};
 ghost use Rattle.resin_site.specs.Under.base.Numbering.{AreNumbered};
 ghost use Rattle.resin_site.specs.Under.journal.Access.{ClassesAreNames};
 ghost use Rattle.resin_serve.specs.Records.{record_text};
@@ -58,12 +59,12 @@ pub(crate) fn give_answer<L: Sink, M: Sink, O: Sink>(
 ) -> Given
     ensures same { (run.new.service ≡ run.old.service) × (run.new.connections ≡ run.old.connections) × (run.new.calls ≡ run.old.calls) }
     ensures gave { (store store' : Option Store) (told told' : Answers) (made made' : ℕ)
-        → GaveAll result (three lines.now mails.now (record_text conn (head.now ++ body.now))) (world (L.written log.old) (M.written mail.old) (O.written out.old) store told made)
+        → GaveAll result (three lines.now mails.now (record_text conn (head.now ++ body.now)))
+        (world (L.written log.old) (M.written mail.old) (O.written out.old) store told made)
         (world (L.written log.new) (M.written mail.new) (O.written out.new) store' told' made') }
     ensures number { OnWhole result (run.new.number ≡ run.old.number + 1) }
-    ensures cause { CausedIn result
-        (sinks (counts (L.faults log.old) (L.stalls log.old)) (counts (M.faults mail.old) (M.stalls mail.old)) (counts (O.faults out.old) (O.stalls out.old)))
-        (sinks (counts (L.faults log.new) (L.stalls log.new)) (counts (M.faults mail.new) (M.stalls mail.new)) (counts (O.faults out.new) (O.stalls out.new))) }
+    ensures cause { CausedIn result (sinks_of L.Sink M.Sink O.Sink log.old mail.old out.old)
+        (sinks_of L.Sink M.Sink O.Sink log.new mail.new out.new) }
 {
     let Some(next) = run.number.checked_add(1) else {
         return Given::Memory;
@@ -87,13 +88,14 @@ fn give_reply<L: Sink, M: Sink, O: Sink>(
 ) -> Given
     ensures same { (run.new.service ≡ run.old.service) × (run.new.connections ≡ run.old.connections) × (run.new.calls ≡ run.old.calls) }
     ensures gave { (store store' : Option Store) (told told' : Answers) (made made' : ℕ)
-        → GaveAll result (three (logged run.old.service.logging run.old.number reply.journal) reply.mail (record_text conn reply.response)) (world (L.written log.old) (M.written mail.old) (O.written out.old) store told made)
+        → GaveAll result
+        (three (logged run.old.service.logging run.old.number reply.journal) reply.mail (record_text conn reply.response))
+        (world (L.written log.old) (M.written mail.old) (O.written out.old) store told made)
         (world (L.written log.new) (M.written mail.new) (O.written out.new) store' told' made') }
     ensures told { ClassesAreNames reply.journal → CanTell run.old.service.logging run.old.number reply.journal }
     ensures number { OnWhole result (run.new.number ≡ run.old.number + 1) }
-    ensures cause { CausedIn result
-        (sinks (counts (L.faults log.old) (L.stalls log.old)) (counts (M.faults mail.old) (M.stalls mail.old)) (counts (O.faults out.old) (O.stalls out.old)))
-        (sinks (counts (L.faults log.new) (L.stalls log.new)) (counts (M.faults mail.new) (M.stalls mail.new)) (counts (O.faults out.new) (O.stalls out.new))) }
+    ensures cause { CausedIn result (sinks_of L.Sink M.Sink O.Sink log.old mail.old out.old)
+        (sinks_of L.Sink M.Sink O.Sink log.new mail.new out.new) }
 {
     let logging = run.service.logging;
     let Ok(lines) = logged(run.alloc, logging, run.number, reply.journal()) else {
@@ -127,16 +129,16 @@ pub(crate) fn serve_request<F: Files, T: Tables, L: Sink, M: Sink, O: Sink>(
     requires { AreNumbered run.old.calls }
     ensures same { (run.new.service ≡ run.old.service) × (run.new.connections ≡ run.old.connections) }
     ensures numbered { AreNumbered run.new.calls }
-    ensures kept { Kept (keepers run.old.calls.made run.old.calls.failed (F.answers files.old) (F.faults files.old) (T.answers tables.old) (T.faults tables.old))
-        (keepers run.new.calls.made run.new.calls.failed (F.answers files.new) (F.faults files.new) (T.answers tables.new) (T.faults tables.new)) }
+    ensures kept { Kept (keepers_of F.Files T.Tables files.old tables.old run.old.calls.made run.old.calls.failed)
+        (keepers_of F.Files T.Tables files.new tables.new run.new.calls.made run.new.calls.failed) }
     ensures ran { (place : ℕ) (K : List ℕ) → Later run.new.calls.made run.new.calls.failed K
-        → Ran result (λ a. a.place ≡ place) (served run.old.service) K run.old.number (record { conn = conn; asked = asks request.now; place = place } ∷ [])
-        (world (L.written log.old) (M.written mail.old) (O.written out.old) (store_of (F.stored files.old) (T.stored tables.old)) (answers (F.answers files.old) (T.answers tables.old)) run.old.calls.made)
-        (world (L.written log.new) (M.written mail.new) (O.written out.new) (store_of (F.stored files.new) (T.stored tables.new)) (answers (F.answers files.new) (T.answers tables.new)) run.new.calls.made) }
+        → Ran result (λ a. a.place ≡ place) (served run.old.service) K run.old.number
+        (record { conn = conn; asked = asks request.now; place = place } ∷ [])
+        (world_of L.Sink M.Sink O.Sink F.Files T.Tables log.old mail.old out.old files.old tables.old run.old.calls.made)
+        (world_of L.Sink M.Sink O.Sink F.Files T.Tables log.new mail.new out.new files.new tables.new run.new.calls.made) }
     ensures number { OnWhole result (run.new.number ≡ run.old.number + 1) }
-    ensures cause { CausedIn result
-        (sinks (counts (L.faults log.old) (L.stalls log.old)) (counts (M.faults mail.old) (M.stalls mail.old)) (counts (O.faults out.old) (O.stalls out.old)))
-        (sinks (counts (L.faults log.new) (L.stalls log.new)) (counts (M.faults mail.new) (M.stalls mail.new)) (counts (O.faults out.new) (O.stalls out.new))) }
+    ensures cause { CausedIn result (sinks_of L.Sink M.Sink O.Sink log.old mail.old out.old)
+        (sinks_of L.Sink M.Sink O.Sink log.new mail.new out.new) }
 {
     let served = answer_one(
         run.alloc,
@@ -168,9 +170,8 @@ pub(crate) fn serve_refusal<L: Sink, M: Sink, O: Sink>(
         (world (L.written log.old) (M.written mail.old) (O.written out.old) store told run.old.calls.made)
         (world (L.written log.new) (M.written mail.new) (O.written out.new) store told run.new.calls.made) }
     ensures number { OnWhole result (run.new.number ≡ run.old.number + 1) }
-    ensures cause { CausedIn result
-        (sinks (counts (L.faults log.old) (L.stalls log.old)) (counts (M.faults mail.old) (M.stalls mail.old)) (counts (O.faults out.old) (O.stalls out.old)))
-        (sinks (counts (L.faults log.new) (L.stalls log.new)) (counts (M.faults mail.new) (M.stalls mail.new)) (counts (O.faults out.new) (O.stalls out.new))) }
+    ensures cause { CausedIn result (sinks_of L.Sink M.Sink O.Sink log.old mail.old out.old)
+        (sinks_of L.Sink M.Sink O.Sink log.new mail.new out.new) }
 {
     let logging = run.service.logging;
     let journal = Journal::new(run.alloc);
@@ -208,15 +209,14 @@ pub(crate) fn serve_connection<F: Files, T: Tables, L: Sink, M: Sink, O: Sink>(
     ensures service { run.new.service ≡ run.old.service }
     ensures others { (c : ℕ) → c ≢ conn → at run.new.connections c ≡ at run.old.connections c }
     ensures numbered { AreNumbered run.new.calls }
-    ensures kept { Kept (keepers run.old.calls.made run.old.calls.failed (F.answers files.old) (F.faults files.old) (T.answers tables.old) (T.faults tables.old))
-        (keepers run.new.calls.made run.new.calls.failed (F.answers files.new) (F.faults files.new) (T.answers tables.new) (T.faults tables.new)) }
+    ensures kept { Kept (keepers_of F.Files T.Tables files.old tables.old run.old.calls.made run.old.calls.failed)
+        (keepers_of F.Files T.Tables files.new tables.new run.new.calls.made run.new.calls.failed) }
     ensures ran { (place : ℕ) (K : List ℕ) → Later run.new.calls.made run.new.calls.failed K
         → Ran result (λ a. a.place ≡ place) (served run.old.service) K run.old.number (asked conn place (still (at run.old.connections conn) []))
-        (world (L.written log.old) (M.written mail.old) (O.written out.old) (store_of (F.stored files.old) (T.stored tables.old)) (answers (F.answers files.old) (T.answers tables.old)) run.old.calls.made)
-        (world (L.written log.new) (M.written mail.new) (O.written out.new) (store_of (F.stored files.new) (T.stored tables.new)) (answers (F.answers files.new) (T.answers tables.new)) run.new.calls.made) }
-    ensures cause { CausedIn result
-        (sinks (counts (L.faults log.old) (L.stalls log.old)) (counts (M.faults mail.old) (M.stalls mail.old)) (counts (O.faults out.old) (O.stalls out.old)))
-        (sinks (counts (L.faults log.new) (L.stalls log.new)) (counts (M.faults mail.new) (M.stalls mail.new)) (counts (O.faults out.new) (O.stalls out.new))) }
+        (world_of L.Sink M.Sink O.Sink F.Files T.Tables log.old mail.old out.old files.old tables.old run.old.calls.made)
+        (world_of L.Sink M.Sink O.Sink F.Files T.Tables log.new mail.new out.new files.new tables.new run.new.calls.made) }
+    ensures cause { CausedIn result (sinks_of L.Sink M.Sink O.Sink log.old mail.old out.old)
+        (sinks_of L.Sink M.Sink O.Sink log.new mail.new out.new) }
     ensures line { OnWhole result (RanLine (at run.old.connections conn) (at run.new.connections conn) run.old.number run.new.number) }
 {
     'answers: loop {
@@ -251,15 +251,15 @@ pub(crate) fn serve_event<F: Files, T: Tables, L: Sink, M: Sink, O: Sink>(
     requires { AreNumbered run.old.calls }
     ensures service { run.new.service ≡ run.old.service }
     ensures numbered { AreNumbered run.new.calls }
-    ensures kept { Kept (keepers run.old.calls.made run.old.calls.failed (F.answers files.old) (F.faults files.old) (T.answers tables.old) (T.faults tables.old))
-        (keepers run.new.calls.made run.new.calls.failed (F.answers files.new) (F.faults files.new) (T.answers tables.new) (T.faults tables.new)) }
-    ensures cause { CausedIn result
-        (sinks (counts (L.faults log.old) (L.stalls log.old)) (counts (M.faults mail.old) (M.stalls mail.old)) (counts (O.faults out.old) (O.stalls out.old)))
-        (sinks (counts (L.faults log.new) (L.stalls log.new)) (counts (M.faults mail.new) (M.stalls mail.new)) (counts (O.faults out.new) (O.stalls out.new))) }
+    ensures kept { Kept (keepers_of F.Files T.Tables files.old tables.old run.old.calls.made run.old.calls.failed)
+        (keepers_of F.Files T.Tables files.new tables.new run.new.calls.made run.new.calls.failed) }
+    ensures cause { CausedIn result (sinks_of L.Sink M.Sink O.Sink log.old mail.old out.old)
+        (sinks_of L.Sink M.Sink O.Sink log.new mail.new out.new) }
     ensures ran { (place : ℕ) (seen : List TraceEvent) → Hold run.old.connections seen
-        → RanEvent result (served run.old.service) seen (event, place) run.old.number run.new.number run.new.calls.made run.new.calls.failed run.new.connections
-        (world (L.written log.old) (M.written mail.old) (O.written out.old) (store_of (F.stored files.old) (T.stored tables.old)) (answers (F.answers files.old) (T.answers tables.old)) run.old.calls.made)
-        (world (L.written log.new) (M.written mail.new) (O.written out.new) (store_of (F.stored files.new) (T.stored tables.new)) (answers (F.answers files.new) (T.answers tables.new)) run.new.calls.made) }
+        → RanEvent result (served run.old.service) seen (event, place) run.old.number run.new.number
+        run.new.calls.made run.new.calls.failed run.new.connections
+        (world_of L.Sink M.Sink O.Sink F.Files T.Tables log.old mail.old out.old files.old tables.old run.old.calls.made)
+        (world_of L.Sink M.Sink O.Sink F.Files T.Tables log.new mail.new out.new files.new tables.new run.new.calls.made) }
 {
     match event {
         TraceEvent::Piece { conn, bytes } => match run.connections.add(conn, bytes) {
@@ -301,15 +301,15 @@ pub(crate) fn serve_ready<F: Files, T: Tables, L: Sink, M: Sink, O: Sink>(
     requires { AreNumbered run.old.calls }
     ensures service { run.new.service ≡ run.old.service }
     ensures numbered { AreNumbered run.new.calls }
-    ensures kept { Kept (keepers run.old.calls.made run.old.calls.failed (F.answers files.old) (F.faults files.old) (T.answers tables.old) (T.faults tables.old))
-        (keepers run.new.calls.made run.new.calls.failed (F.answers files.new) (F.faults files.new) (T.answers tables.new) (T.faults tables.new)) }
-    ensures cause { CausedIn (given_of result)
-        (sinks (counts (L.faults log.old) (L.stalls log.old)) (counts (M.faults mail.old) (M.stalls mail.old)) (counts (O.faults out.old) (O.stalls out.old)))
-        (sinks (counts (L.faults log.new) (L.stalls log.new)) (counts (M.faults mail.new) (M.stalls mail.new)) (counts (O.faults out.new) (O.stalls out.new))) }
+    ensures kept { Kept (keepers_of F.Files T.Tables files.old tables.old run.old.calls.made run.old.calls.failed)
+        (keepers_of F.Files T.Tables files.new tables.new run.new.calls.made run.new.calls.failed) }
+    ensures cause { CausedIn (given_of result) (sinks_of L.Sink M.Sink O.Sink log.old mail.old out.old)
+        (sinks_of L.Sink M.Sink O.Sink log.new mail.new out.new) }
     ensures went { (seen : List TraceEvent) (b : ℕ) → Hold run.old.connections seen → Beyond b reader.old
-        → Went result (served run.old.service) b seen reader.old reader.new run.old.number run.new.number run.new.calls.made run.new.calls.failed run.new.connections
-        (world (L.written log.old) (M.written mail.old) (O.written out.old) (store_of (F.stored files.old) (T.stored tables.old)) (answers (F.answers files.old) (T.answers tables.old)) run.old.calls.made)
-        (world (L.written log.new) (M.written mail.new) (O.written out.new) (store_of (F.stored files.new) (T.stored tables.new)) (answers (F.answers files.new) (T.answers tables.new)) run.new.calls.made) }
+        → Went result (served run.old.service) b seen reader.old reader.new run.old.number run.new.number
+        run.new.calls.made run.new.calls.failed run.new.connections
+        (world_of L.Sink M.Sink O.Sink F.Files T.Tables log.old mail.old out.old files.old tables.old run.old.calls.made)
+        (world_of L.Sink M.Sink O.Sink F.Files T.Tables log.new mail.new out.new files.new tables.new run.new.calls.made) }
 {
     'records: loop {
         match reader.next() {

@@ -3,10 +3,10 @@ ghost use Rattle.std.specs.Prelude.{◌≡◌, [], ℕ, List, Some, None, OnOk, 
 ghost use Rattle.resin_site.specs.Under.base.Numbering.{AreNumbered};
 ghost use Rattle.resin_trace.specs.Lines.{at};
 ghost use Rattle.resin_trace.specs.Seen.{fed};
-ghost use Rattle.resin_serve.specs.Ran.{world};
-ghost use Rattle.resin_serve.specs.Gives.{CausedIn, counts, sinks};
-ghost use Rattle.resin_serve.specs.Kept.{Kept, keepers};
-ghost use Rattle.resin_site.specs.Keeping.{Later, answers, store_of};
+ghost use Rattle.resin_serve.specs.Gives.{CausedIn};
+ghost use Rattle.resin_serve.specs.Kept.{Kept};
+ghost use Rattle.resin_serve.specs.Outside.{keepers_of, sinks_of, world_of};
+ghost use Rattle.resin_site.specs.Keeping.{Later};
 ghost use Rattle.resin_serve.specs.Asked.{served};
 ghost use Rattle.resin_serve.specs.Whole_run.{RunsFrom, ReadCause, Finished, Numbers, given_of_status};
 ghost use Rattle.resin_serve.specs.Audits.{EndsRun};
@@ -58,17 +58,16 @@ pub(crate) fn serve_trace<S: Source, F: Files, T: Tables, L: Sink, M: Sink, O: S
     requires numbered { AreNumbered run.old.calls }
     requires new { (c : ℕ) → at run.old.connections c ≡ None }
     ensures serves { EndsRun result }
-    ensures kept { Kept (keepers run.old.calls.made run.old.calls.failed (F.answers files.old) (F.faults files.old) (T.answers tables.old) (T.faults tables.old))
-        (keepers run.new.calls.made run.new.calls.failed (F.answers files.new) (F.faults files.new) (T.answers tables.new) (T.faults tables.new)) }
-    ensures cause { CausedIn (given_of_status result)
-        (sinks (counts (L.faults log.old) (L.stalls log.old)) (counts (M.faults mail.old) (M.stalls mail.old)) (counts (O.faults out.old) (O.stalls out.old)))
-        (sinks (counts (L.faults log.new) (L.stalls log.new)) (counts (M.faults mail.new) (M.stalls mail.new)) (counts (O.faults out.new) (O.stalls out.new))) }
+    ensures kept { Kept (keepers_of F.Files T.Tables files.old tables.old run.old.calls.made run.old.calls.failed)
+        (keepers_of F.Files T.Tables files.new tables.new run.new.calls.made run.new.calls.failed) }
+    ensures cause { CausedIn (given_of_status result) (sinks_of L.Sink M.Sink O.Sink log.old mail.old out.old)
+        (sinks_of L.Sink M.Sink O.Sink log.new mail.new out.new) }
     ensures read { ReadCause result (S.faults trace.old) (S.faults trace.new) }
     ensures numbers { (all : List ℕ) → S.left trace.old ≡ Some all → Numbers result all run.new.number }
     ensures ran { (K all : List ℕ) → Later run.new.calls.made run.new.calls.failed K → S.left trace.old ≡ Some all
         → RunsFrom result (served run.old.service) K all (S.left trace.new)
-        (world (L.written log.old) (M.written mail.old) (O.written out.old) (store_of (F.stored files.old) (T.stored tables.old)) (answers (F.answers files.old) (T.answers tables.old)) run.old.calls.made)
-        (world (L.written log.new) (M.written mail.new) (O.written out.new) (store_of (F.stored files.new) (T.stored tables.new)) (answers (F.answers files.new) (T.answers tables.new)) run.new.calls.made) }
+        (world_of L.Sink M.Sink O.Sink F.Files T.Tables log.old mail.old out.old files.old tables.old run.old.calls.made)
+        (world_of L.Sink M.Sink O.Sink F.Files T.Tables log.new mail.new out.new files.new tables.new run.new.calls.made) }
 {
     let mut reader = TraceReader::new(run.alloc);
     let mut buffer = [0u8; 65536];

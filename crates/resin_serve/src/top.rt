@@ -3,10 +3,9 @@ ghost use Rattle.std.specs.Prelude.{◌≡◌, ◌≤◌, ◌+◌, ◌<◌, [], 
 ghost use Rattle.resin_site.specs.Under.base.Causes.{last_count};
 ghost use Rattle.resin_site.specs.Under.base.Numbering.{RiseWithin};
 ghost use Rattle.resin_trace.specs.Verdicts.{IsGood};
-ghost use Rattle.resin_serve.specs.Ran.{world};
-ghost use Rattle.resin_serve.specs.Gives.{CausedIn, RoseIn, counts, sinks};
-ghost use Rattle.resin_serve.specs.Kept.{Kept, keepers};
-ghost use Rattle.resin_site.specs.Keeping.{answers, store_of};
+ghost use Rattle.resin_serve.specs.Gives.{CausedIn, RoseIn, counts};
+ghost use Rattle.resin_serve.specs.Kept.{Kept};
+ghost use Rattle.resin_serve.specs.Outside.{keepers_of, sinks_of, world_of};
 ghost use Rattle.resin_serve.specs.Asked.{meaning};
 ghost use Rattle.resin_trace.specs.Records.{limit};
 ghost use Rattle.resin_serve.specs.Whole_run.{RunsFrom, ReadCause, given_of_status};
@@ -48,22 +47,25 @@ pub fn serve<S: Source, O: Sink, L: Sink, M: Sink, F: Files, T: Tables>(
     // Usage comes exactly where the words are none of the forms, and then nothing is read or written.
     ensures usage { (result.status ≡ Usage) ↔ (task_of (map string_bytes words.now) ≡ None) }
     ensures untouched { task_of (map string_bytes words.now) ≡ None
-        → (trace.new ≡ trace.old) × (out.new ≡ out.old) × (log.new ≡ log.old) × (mail.new ≡ mail.old) × (files.new ≡ files.old) × (tables.new ≡ tables.old)
+        → (trace.new ≡ trace.old) × (out.new ≡ out.old) × (log.new ≡ log.old) × (mail.new ≡ mail.old)
+        × (files.new ≡ files.old) × (tables.new ≡ tables.old)
         × (result.made ≡ 0) × (result.failed ≡ []) }
 
     // What the sinks gained and the keepers hold is the meaning's, as far as the status says, and each answer that gave a byte obeys the access law.
     // The keeper calls that were made are the meaning's, and where a keeper tells its answers, those of them that failed there are the listed ones.
-    ensures run { (logging : Logging) (fuel : ℕ) (all : List ℕ) → task_of (map string_bytes words.now) ≡ Some (Task.Run logging fuel) → S.left trace.old ≡ Some all
+    ensures run { (logging : Logging) (fuel : ℕ) (all : List ℕ)
+        → task_of (map string_bytes words.now) ≡ Some (Task.Run logging fuel) → S.left trace.old ≡ Some all
         → RunsFrom result.status (meaning logging fuel) result.failed all (S.left trace.new)
-        (world (L.written log.old) (M.written mail.old) (O.written out.old) (store_of (F.stored files.old) (T.stored tables.old)) (answers (F.answers files.old) (T.answers tables.old)) 0)
-        (world (L.written log.new) (M.written mail.new) (O.written out.new) (store_of (F.stored files.new) (T.stored tables.new)) (answers (F.answers files.new) (T.answers tables.new)) result.made) }
+        (world_of L.Sink M.Sink O.Sink F.Files T.Tables log.old mail.old out.old files.old tables.old 0)
+        (world_of L.Sink M.Sink O.Sink F.Files T.Tables log.new mail.new out.new files.new tables.new result.made) }
 
     // An audit gives the line of the verdict on the whole text, and has its status; it makes no keeper call, and leaves all else alone. AuditRefused
     // comes only there, and a bad trace never.
     ensures audit { (all : List ℕ) → task_of (map string_bytes words.now) ≡ Some Task.Audit → S.left trace.old ≡ Some all
         → Audits result.status all (O.written out.old) (O.written out.new) }
     ensures audits { task_of (map string_bytes words.now) ≡ Some Task.Audit
-        → EndsAudit result.status × OnSilent result.status (out.new ≡ out.old) × (log.new ≡ log.old) × (mail.new ≡ mail.old) × (files.new ≡ files.old) × (tables.new ≡ tables.old)
+        → EndsAudit result.status × OnSilent result.status (out.new ≡ out.old) × (log.new ≡ log.old) × (mail.new ≡ mail.old)
+        × (files.new ≡ files.old) × (tables.new ≡ tables.old)
         × (result.made ≡ 0) × (result.failed ≡ []) }
 
     // The sample's run is told by its line, and all else stays as it was.
@@ -74,37 +76,34 @@ pub fn serve<S: Source, O: Sink, L: Sink, M: Sink, F: Files, T: Tables>(
     ensures refused { result.status ≡ AuditRefused → task_of (map string_bytes words.now) ≡ Some Task.Audit }
 
     // Neighbouring answers of the run's meaning that leave each other's files and tables alone may come in either order.
-    ensures exchange { (logging : Logging) (fuel : ℕ) → task_of (map string_bytes words.now) ≡ Some (Task.Run logging fuel) → Exchanges (meaning logging fuel) }
+    ensures exchange { (logging : Logging) (fuel : ℕ)
+        → task_of (map string_bytes words.now) ≡ Some (Task.Run logging fuel) → Exchanges (meaning logging fuel) }
 
     // The failed calls are those that the keepers tell of, in order.
-    ensures kept { Kept (keepers 0 [] (F.answers files.old) (F.faults files.old) (T.answers tables.old) (T.faults tables.old))
-        (keepers result.made result.failed (F.answers files.new) (F.faults files.new) (T.answers tables.new) (T.faults tables.new)) }
+    ensures kept { Kept (keepers_of F.Files T.Tables files.old tables.old 0 [])
+        (keepers_of F.Files T.Tables files.new tables.new result.made result.failed) }
     ensures numbered { RiseWithin 0 result.made result.failed }
     ensures as_many { F.faults files.new < last_count → T.faults tables.new < last_count
         → length result.failed + (F.faults files.old + T.faults tables.old) ≤ F.faults files.new + T.faults tables.new }
 
     // Each fault has its cause.
-    ensures cause { CausedIn (given_of_status result.status)
-        (sinks (counts (L.faults log.old) (L.stalls log.old)) (counts (M.faults mail.old) (M.stalls mail.old)) (counts (O.faults out.old) (O.stalls out.old)))
-        (sinks (counts (L.faults log.new) (L.stalls log.new)) (counts (M.faults mail.new) (M.stalls mail.new)) (counts (O.faults out.new) (O.stalls out.new))) }
+    ensures cause { CausedIn (given_of_status result.status) (sinks_of L.Sink M.Sink O.Sink log.old mail.old out.old)
+        (sinks_of L.Sink M.Sink O.Sink log.new mail.new out.new) }
     ensures read { ReadCause result.status (S.faults trace.old) (S.faults trace.new) }
 
     // A good trace over a calm outside is served to its end, unless memory is wanting.
-    ensures complete { (logging : Logging) (fuel : ℕ) (all : List ℕ) → task_of (map string_bytes words.now) ≡ Some (Task.Run logging fuel) → S.left trace.old ≡ Some all → IsGood all
+    ensures complete { (logging : Logging) (fuel : ℕ) (all : List ℕ)
+        → task_of (map string_bytes words.now) ≡ Some (Task.Run logging fuel) → S.left trace.old ≡ Some all → IsGood all
         → Calm (S.faults trace.old) (S.faults trace.new)
-        (sinks (counts (L.faults log.old) (L.stalls log.old)) (counts (M.faults mail.old) (M.stalls mail.old)) (counts (O.faults out.old) (O.stalls out.old)))
-        (sinks (counts (L.faults log.new) (L.stalls log.new)) (counts (M.faults mail.new) (M.stalls mail.new)) (counts (O.faults out.new) (O.stalls out.new)))
-        (keepers 0 [] (F.answers files.old) (F.faults files.old) (T.answers tables.old) (T.faults tables.old))
-        (keepers result.made result.failed (F.answers files.new) (F.faults files.new) (T.answers tables.new) (T.faults tables.new))
+        (sinks_of L.Sink M.Sink O.Sink log.old mail.old out.old) (sinks_of L.Sink M.Sink O.Sink log.new mail.new out.new)
+        (keepers_of F.Files T.Tables files.old tables.old 0 []) (keepers_of F.Files T.Tables files.new tables.new result.made result.failed)
         → Completes result.status × (result.failed ≡ []) }
 
     // A text within the limit is audited over a calm outside, unless memory is wanting.
     ensures answers { (all : List ℕ) → task_of (map string_bytes words.now) ≡ Some Task.Audit → S.left trace.old ≡ Some all → length all ≤ limit
         → Calm (S.faults trace.old) (S.faults trace.new)
-        (sinks (counts (L.faults log.old) (L.stalls log.old)) (counts (M.faults mail.old) (M.stalls mail.old)) (counts (O.faults out.old) (O.stalls out.old)))
-        (sinks (counts (L.faults log.new) (L.stalls log.new)) (counts (M.faults mail.new) (M.stalls mail.new)) (counts (O.faults out.new) (O.stalls out.new)))
-        (keepers 0 [] (F.answers files.old) (F.faults files.old) (T.answers tables.old) (T.faults tables.old))
-        (keepers result.made result.failed (F.answers files.new) (F.faults files.new) (T.answers tables.new) (T.faults tables.new))
+        (sinks_of L.Sink M.Sink O.Sink log.old mail.old out.old) (sinks_of L.Sink M.Sink O.Sink log.new mail.new out.new)
+        (keepers_of F.Files T.Tables files.old tables.old 0 []) (keepers_of F.Files T.Tables files.new tables.new result.made result.failed)
         → CompletesAudit result.status }
 
     // The sample's line is given whole to a calm output, unless memory is wanting.
@@ -148,21 +147,18 @@ fn serve_site<S: Source, O: Sink, L: Sink, M: Sink, F: Files, T: Tables>(
     ensures serves { EndsRun result.status }
     ensures run { (all : List ℕ) → S.left trace.old ≡ Some all
         → RunsFrom result.status (meaning logging fuel) result.failed all (S.left trace.new)
-        (world (L.written log.old) (M.written mail.old) (O.written out.old) (store_of (F.stored files.old) (T.stored tables.old)) (answers (F.answers files.old) (T.answers tables.old)) 0)
-        (world (L.written log.new) (M.written mail.new) (O.written out.new) (store_of (F.stored files.new) (T.stored tables.new)) (answers (F.answers files.new) (T.answers tables.new)) result.made) }
-    ensures kept { Kept (keepers 0 [] (F.answers files.old) (F.faults files.old) (T.answers tables.old) (T.faults tables.old))
-        (keepers result.made result.failed (F.answers files.new) (F.faults files.new) (T.answers tables.new) (T.faults tables.new)) }
+        (world_of L.Sink M.Sink O.Sink F.Files T.Tables log.old mail.old out.old files.old tables.old 0)
+        (world_of L.Sink M.Sink O.Sink F.Files T.Tables log.new mail.new out.new files.new tables.new result.made) }
+    ensures kept { Kept (keepers_of F.Files T.Tables files.old tables.old 0 [])
+        (keepers_of F.Files T.Tables files.new tables.new result.made result.failed) }
     ensures numbered { RiseWithin 0 result.made result.failed }
-    ensures cause { CausedIn (given_of_status result.status)
-        (sinks (counts (L.faults log.old) (L.stalls log.old)) (counts (M.faults mail.old) (M.stalls mail.old)) (counts (O.faults out.old) (O.stalls out.old)))
-        (sinks (counts (L.faults log.new) (L.stalls log.new)) (counts (M.faults mail.new) (M.stalls mail.new)) (counts (O.faults out.new) (O.stalls out.new))) }
+    ensures cause { CausedIn (given_of_status result.status) (sinks_of L.Sink M.Sink O.Sink log.old mail.old out.old)
+        (sinks_of L.Sink M.Sink O.Sink log.new mail.new out.new) }
     ensures read { ReadCause result.status (S.faults trace.old) (S.faults trace.new) }
     ensures complete { (all : List ℕ) → S.left trace.old ≡ Some all → IsGood all
         → Calm (S.faults trace.old) (S.faults trace.new)
-        (sinks (counts (L.faults log.old) (L.stalls log.old)) (counts (M.faults mail.old) (M.stalls mail.old)) (counts (O.faults out.old) (O.stalls out.old)))
-        (sinks (counts (L.faults log.new) (L.stalls log.new)) (counts (M.faults mail.new) (M.stalls mail.new)) (counts (O.faults out.new) (O.stalls out.new)))
-        (keepers 0 [] (F.answers files.old) (F.faults files.old) (T.answers tables.old) (T.faults tables.old))
-        (keepers result.made result.failed (F.answers files.new) (F.faults files.new) (T.answers tables.new) (T.faults tables.new))
+        (sinks_of L.Sink M.Sink O.Sink log.old mail.old out.old) (sinks_of L.Sink M.Sink O.Sink log.new mail.new out.new)
+        (keepers_of F.Files T.Tables files.old tables.old 0 []) (keepers_of F.Files T.Tables files.new tables.new result.made result.failed)
         → Completes result.status × (result.failed ≡ []) }
 {
     let Ok(mut run) = new_run(alloc, logging, fuel) else {

@@ -1,4 +1,5 @@
--- The access law of an answer: data leaves only through checked writes, and the answer is what they sent (RESIN's claim, over this project's journal).
+-- The access law of an answer: data leaves only through checked writes, and the answer is what they sent (RESIN's claim, over this
+-- project's journal).
 use Rattle.std.specs.Prelude.{◌≡◌, ℕ, Bool, List, [], ◌++◌, decimal, ◌⊎◌, Option, Some, None}
 use Rattle.resin_request.specs.Under.http.Response.{response}
 use Rattle.resin_request.specs.Under.journal.Access.{ObeysAccessLaw, ClassesAreNames}
@@ -17,9 +18,10 @@ pub record IsTextOfParts (o : Outcome) : Type 0 where
   pub head_only : Bool
   pub text : o.response ≡ response o.status o.headers (kind_at o.end path) o.body head_only
 
--- The journal obeys the law of writes, and tells classes by names. The body is what was sent on `http`, and then the fixed text of the end. The mail is what was sent on
--- `email`, in the request of this number. Each header was sent on `header`, and they stand in that order. Where the request was served, the status
--- is the first one, that of a `Location` header, or was sent. The response says this status, these headers and this body, and nothing else.
+-- The journal obeys the law of writes, and tells classes by names. The body is what was sent on `http`, and then the fixed text of the end.
+-- The mail is what was sent on `email`, in the request of this number. Each header was sent on `header`, and they stand in that order. Where
+-- the request was served, the status is the first one, that of a `Location` header, or was sent. The response says this status, these
+-- headers and this body, and nothing else.
 pub record IsLawful (request : ℕ) (o : Outcome) : Type 0 where
   pub writes : ObeysAccessLaw o.journal
   pub classes : ClassesAreNames o.journal

@@ -3,6 +3,7 @@ pub mod Outcomes
 pub mod Laws
 pub mod Replies
 pub mod Serving
+pub mod Outside
 pub mod Framing
 pub mod Isolation
 pub mod Under

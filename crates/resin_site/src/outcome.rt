@@ -150,14 +150,15 @@ fn with_parts(
 {
     let status = status_of(&end, left.status);
     let kind = kind_at(&end, path);
+    let headers = left.headers.into_list(alloc)?;
     let mut body = left.body;
     push_fixed(&mut body, &end)?;
     let length = body.as_slice().len();
-    let head = response_head(alloc, status, &left.headers, kind, length)?;
+    let head = response_head(alloc, status, &headers, kind, length)?;
     Ok(Answer {
         end,
         status,
-        headers: left.headers,
+        headers,
         head,
         body,
         head_only,

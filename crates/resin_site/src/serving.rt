@@ -1,13 +1,14 @@
 //! One request.
-ghost use Rattle.std.specs.Prelude.{◌≡◌, ◌≤◌, List, ℕ, IfOk};
+ghost use Rattle.std.specs.Prelude.{◌≡◌, ◌≤◌, List, IfOk};
 ghost use Rattle.resin_request.specs.Under.base.Numbering.{AreNumbered};
 ghost use Rattle.resin_request.specs.Under.meaning.Programs.{KeeperCall};
 ghost use Rattle.resin_site.specs.Framing.{IsFramed};
 ghost use Rattle.resin_site.specs.Isolation.{IsIsolated};
-ghost use Rattle.resin_site.specs.Keeping.{Later, Passes, Tells, Blames, answers, faults, store_of};
+ghost use Rattle.resin_site.specs.Keeping.{Passes};
 ghost use Rattle.resin_site.specs.Laws.{IsLawful};
 ghost use Rattle.resin_site.specs.Replies.{is_head};
-ghost use Rattle.resin_site.specs.Serving.{Served, Ends};
+ghost use Rattle.resin_site.specs.Serving.{Ends};
+ghost use Rattle.resin_site.specs.Outside.{BlamesKeeper, IsServed, TellsCalls, outside};
 
 use crate::answer::Answer;
 use crate::outcome::{Outcome, answer_for};
@@ -26,7 +27,8 @@ use std::alloc::{AllocError, Global};
 /// to.
 ///
 /// The end is `Served` with the status that the scripts set, which is 200 at first; `NotFound` with 404 where the path isn't open to requests or
-/// names no file; `Uncaught` and `Fault` with 500; and `Keeper` with 503 exactly where the last keeper call failed. What was sent before an end stays, and the end's text comes behind it. A HEAD request's response leaves the body out.
+/// names no file; `Uncaught` and `Fault` with 500; and `Keeper` with 503 exactly where the last keeper call failed. What was sent before an
+/// end stays, and the end's text comes behind it. A HEAD request's response leaves the body out.
 ///
 /// After want of memory the keepers and `calls` stand as at one of the moments of the request.
 pub fn serve_one<F: Files, T: Tables>(
@@ -44,31 +46,30 @@ pub fn serve_one<F: Files, T: Tables>(
     ensures later { Passes calls.old.made calls.old.failed calls.new.made calls.new.failed }
 
     // Whatever numbers follow those of the calls that failed: where the keepers tell what they hold, the request was served as it means.
-    ensures served { (K : List ℕ) → Later calls.new.made calls.new.failed K
-        → Served site.old K (store_of (F.stored files.old) (T.stored tables.old)) calls.old.made number r.now
-        (λ made. Tells made (answers (F.answers files.old) (T.answers tables.old)) (answers (F.answers files.new) (T.answers tables.new)) calls.old.made calls.new.made calls.new.failed)
-        result (store_of (F.stored files.new) (T.stored tables.new)) calls.new.made }
+    ensures served { IsServed site.old number r.now (outside F.Files T.Tables files.old tables.old calls.old) result
+        (outside F.Files T.Tables files.new tables.new calls.new) }
 
     // The access law.
     ensures lawful { IfOk result (λ o. IsLawful number o) }
 
     // A keeper's failure ends the request, and is blamed on a keeper whose count of faults rose.
     ensures ends { Ends result calls.new.made calls.old.failed calls.new.failed }
-    ensures blames { Blames calls.old.made calls.old.failed (faults (F.faults files.old) (T.faults tables.old))
-        calls.new.made calls.new.failed (faults (F.faults files.new) (T.faults tables.new)) }
+    ensures blames { BlamesKeeper (outside F.Files T.Tables files.old tables.old calls.old)
+        (outside F.Files T.Tables files.new tables.new calls.new) }
 
     // No count of faults falls.
     ensures counted { (F.faults files.old ≤ F.faults files.new) × (T.faults tables.old ≤ T.faults tables.new) }
 
-    // The frame: from every store that agrees on the names that the request's calls touch it means the same, where the same of its calls fail and they
-    // have numbers, and it leaves every name that they don't change as it was.
+    // The frame: from every store that agrees on the names that the request's calls touch it means the same, where the same of its calls
+    // fail and they have numbers, and it leaves every name that they don't change as it was.
     ensures framed { IsFramed site.old calls.old.made number r.now }
 
     // Isolation: the meaning of the request depends on its own session and on what all share, and leaves every other session as it was.
     ensures isolated { IsIsolated site.old calls.old.made number r.now }
 
     // The keepers' own answers are those of the request's calls.
-    ensures told { (made : List KeeperCall) × Tells made (answers (F.answers files.old) (T.answers tables.old)) (answers (F.answers files.new) (T.answers tables.new)) calls.old.made calls.new.made calls.new.failed }
+    ensures told { (made : List KeeperCall) × TellsCalls (outside F.Files T.Tables files.old tables.old calls.old)
+        (outside F.Files T.Tables files.new tables.new calls.new) made }
 {
     let answer = answer_one(alloc, site, r, number, files, tables, calls)?;
     answer.into_outcome(alloc)
@@ -90,24 +91,23 @@ pub fn answer_one<F: Files, T: Tables>(
     ensures later { Passes calls.old.made calls.old.failed calls.new.made calls.new.failed }
 
     // Whatever numbers follow those of the calls that failed: where the keepers tell what they hold, the request was served as it means.
-    ensures served { (K : List ℕ) → Later calls.new.made calls.new.failed K
-        → Served site.old K (store_of (F.stored files.old) (T.stored tables.old)) calls.old.made number r.now
-        (λ made. Tells made (answers (F.answers files.old) (T.answers tables.old)) (answers (F.answers files.new) (T.answers tables.new)) calls.old.made calls.new.made calls.new.failed)
-        result (store_of (F.stored files.new) (T.stored tables.new)) calls.new.made }
+    ensures served { IsServed site.old number r.now (outside F.Files T.Tables files.old tables.old calls.old) result
+        (outside F.Files T.Tables files.new tables.new calls.new) }
 
     // The access law.
     ensures lawful { IfOk result (λ o. IsLawful number o) }
 
     // A keeper's failure ends the request, and is blamed on a keeper whose count of faults rose.
     ensures ends { Ends result calls.new.made calls.old.failed calls.new.failed }
-    ensures blames { Blames calls.old.made calls.old.failed (faults (F.faults files.old) (T.faults tables.old))
-        calls.new.made calls.new.failed (faults (F.faults files.new) (T.faults tables.new)) }
+    ensures blames { BlamesKeeper (outside F.Files T.Tables files.old tables.old calls.old)
+        (outside F.Files T.Tables files.new tables.new calls.new) }
 
     // No count of faults falls.
     ensures counted { (F.faults files.old ≤ F.faults files.new) × (T.faults tables.old ≤ T.faults tables.new) }
 
     // The keepers' own answers are those of the request's calls.
-    ensures told { (made : List KeeperCall) × Tells made (answers (F.answers files.old) (T.answers tables.old)) (answers (F.answers files.new) (T.answers tables.new)) calls.old.made calls.new.made calls.new.failed }
+    ensures told { (made : List KeeperCall) × TellsCalls (outside F.Files T.Tables files.old tables.old calls.old)
+        (outside F.Files T.Tables files.new tables.new calls.new) made }
 {
     let path = path_of(alloc, r.target.as_slice())?;
     let inputs = inputs(alloc, r)?;

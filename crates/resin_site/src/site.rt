@@ -70,8 +70,10 @@ impl Site {
     ) -> Result<Finish, Stop>
         ensures kept { self.new ≡ self.old }
         ensures does { Does (request_program path.now inputs)
-            (world m.old (files_seen (F.stored files.old) (F.faults files.old) (F.answers files.old)) (seen (T.stored tables.old) (T.faults tables.old) (T.answers tables.old)) calls.old) result
-            (world m.new (files_seen (F.stored files.new) (F.faults files.new) (F.answers files.new)) (seen (T.stored tables.new) (T.faults tables.new) (T.answers tables.new)) calls.new) }
+            (world m.old (files_seen (F.stored files.old) (F.faults files.old) (F.answers files.old))
+            (seen (T.stored tables.old) (T.faults tables.old) (T.answers tables.old)) calls.old) result
+            (world m.new (files_seen (F.stored files.new) (F.faults files.new) (F.answers files.new))
+            (seen (T.stored tables.new) (T.faults tables.new) (T.answers tables.new)) calls.new) }
     {
         run_request(
             alloc,
