@@ -1,5 +1,6 @@
 -- What a keeper of tables holds: a map from name to columns and rows (this project).
-use Rattle.std.specs.Prelude.{◌≡◌, ℕ, ◌+◌, ◌-◌, ◌^◌, ◌==◌, ◌&&◌, max, not, nat_lt, nat_le, Bool, true, false, List, [], ◌∷◌, ◌++◌, length, map, filter, Option, Some, None, Result, IfOk, MatchResult, IsTrue, ⊤, if◌then◌else◌}
+use Rattle.std.specs.Prelude.{◌≡◌, ℕ, ◌+◌, ◌-◌, ◌^◌, ◌==◌, ◌&&◌, max, not, nat_lt, nat_le, Bool, true, false}
+use Rattle.std.specs.Prelude.{List, [], ◌∷◌, ◌++◌, length, map, filter, Option, Some, None, Result, IfOk, MatchResult, IsTrue, ⊤, if◌then◌else◌}
 use Rattle.std.specs.List.{list_any, list_all}
 use Rattle.std.specs.Option.{option_map, option_map_or, ForSome}
 use Rattle.std.specs.FinMap.{FinMap, get, insert, contains_key}
@@ -74,7 +75,8 @@ largest_number (row ∷ rows) = max row.number (largest_number rows)
 abbrev pub last_row_number : ℕ
 last_row_number = 2 ^ 63 - 1
 
--- the number of the next row of a table: one more than the largest held; none where the table isn't there, the cells don't fit it or no number is left
+-- the number of the next row of a table: one more than the largest held; none where the table isn't there, the cells don't fit it or no
+-- number is left
 abbrev pub next_number : TableStore → List ℕ → List Cell → Option ℕ
 next_number s name cells =
     if fits s name cells && nat_lt (largest_number (rows_of s name)) last_row_number

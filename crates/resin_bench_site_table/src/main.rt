@@ -4,8 +4,8 @@
 //! - `over|PATH|ASKED`: the same of the path `ASKED`, where the store held the bytes `old` with the shadow text `shadow` at `PATH` before;
 //! - `text|N`: the trace of N pairs of requests, in which `\n`, `\r` and `\\` stand for a byte;
 //! - `trace|N`: how long it is, and its MD5 digest;
-//! - `read|N`: how many records it has, as the reader of traces hands them out, and of each connection how many requests came whole, how many bytes stand behind
-//!   them, and the length and the digest of its stream.
+//! - `read|N`: how many records it has, as the reader of traces hands them out, and of each connection how many requests came whole, how
+//!   many bytes stand behind them, and the length and the digest of its stream.
 //!
 //! The answers were worked out by a program in Python from the description of the sample alone; those of `text|1` and `text|6` were read by hand too.
 #![tactic(auto)]

@@ -1,5 +1,6 @@
 -- Calls of builtin functions, with what they cost.
-use Rattle.std.specs.Prelude.{ℕ, ◌-◌, ◌/◌, nat_lt, Bool, true, false, not, if◌then◌else◌, List, [], ◌∷◌, map, replicate, length, sum_by, Option, Some, None, Result, Ok, Err}
+use Rattle.std.specs.Prelude.{ℕ, ◌-◌, ◌/◌, nat_lt, Bool, true, false, not, if◌then◌else◌}
+use Rattle.std.specs.Prelude.{List, [], ◌∷◌, map, replicate, length, sum_by, Option, Some, None, Result, Ok, Err}
 use Rattle.resin_format.specs.Under.label.Sets.{NumberSet}
 use Rattle.resin_format.specs.Under.lstr.Texts.{Text as LabelledText}
 use Rattle.resin_format.specs.Under.scalar.declared.faults.CallStop.{CallStop}

@@ -1,5 +1,6 @@
 -- The builtin functions, each from its arguments to a value, a throw or a fault.
-use Rattle.std.specs.Prelude.{ℤ, pos, ◌-ℤ◌, Bool, true, false, if◌then◌else◌, List, [], ◌∷◌, length, codes, Option, Some, None, Result, Ok, Err, int_div}
+use Rattle.std.specs.Prelude.{ℤ, pos, ◌-ℤ◌, Bool, true, false, if◌then◌else◌}
+use Rattle.std.specs.Prelude.{List, [], ◌∷◌, length, codes, Option, Some, None, Result, Ok, Err, int_div}
 use Rattle.std.specs.Ordering.{int_eq}
 use Rattle.std.specs.Int.{is_negative}
 use Rattle.std.specs.List.{slice_get}
@@ -33,9 +34,13 @@ use Rattle.resin_array_fn.specs.Filled.{and_then}
 use Rattle.resin_array_fn.specs.Rows as arrays
 use Rattle.resin_array_fn.specs.Searches as searches
 use Rattle.resin_builtin.specs.declared.builtin.Builtin.{Builtin}
-use Rattle.resin_builtin.specs.declared.builtin.Builtin.TheVariants.{OneText, Digest, TwoTexts, Trim, OneInteger, Test, OneArray, Substr, Strpos, StrRepeat, Implode, StrPad, Sprintf, Intval, Intdiv, ArrayMerge, ArraySlice, ArrayReverse, ArrayKeyExists}
+use Rattle.resin_builtin.specs.declared.builtin.Builtin.TheVariants.{OneText, Digest, TwoTexts, Trim, OneInteger, Test, OneArray}
+use Rattle.resin_builtin.specs.declared.builtin.Builtin.TheVariants.{Substr, Strpos, StrRepeat, Implode, StrPad, Sprintf, Intval}
+use Rattle.resin_builtin.specs.declared.builtin.Builtin.TheVariants.{Intdiv, ArrayMerge, ArraySlice, ArrayReverse, ArrayKeyExists}
 use Rattle.resin_builtin.specs.declared.builtin.OneText.{OneText as TextRow}
-use Rattle.resin_builtin.specs.declared.builtin.OneText.TheVariants.{Length, UpperCase, LowerCase, UpperFirst, Reversed, HtmlEscaped, Slashed, SqlQuoted, UrlEncoded, RawUrlEncoded, WithBreaks, Hexadecimal as HexadecimalRow, FirstByte, Itself}
+use Rattle.resin_builtin.specs.declared.builtin.OneText.TheVariants.{Length, UpperCase, LowerCase, UpperFirst, Reversed}
+use Rattle.resin_builtin.specs.declared.builtin.OneText.TheVariants.{HtmlEscaped, Slashed, SqlQuoted, UrlEncoded, RawUrlEncoded}
+use Rattle.resin_builtin.specs.declared.builtin.OneText.TheVariants.{WithBreaks, Hexadecimal as HexadecimalRow, FirstByte, Itself}
 use Rattle.resin_builtin.specs.declared.builtin.Digest.{Digest as DigestRow}
 use Rattle.resin_builtin.specs.declared.builtin.Digest.TheVariants.{Md5, Sha1}
 use Rattle.resin_builtin.specs.declared.builtin.TwoTexts.{TwoTexts as TwoTextRow}
@@ -45,10 +50,12 @@ use Rattle.resin_builtin.specs.declared.builtin.TrimSide.TheVariants.{Both, Fron
 use Rattle.resin_builtin.specs.declared.builtin.OneInteger.{OneInteger as IntegerRow}
 use Rattle.resin_builtin.specs.declared.builtin.OneInteger.TheVariants.{Character, Magnitude}
 use Rattle.resin_builtin.specs.declared.builtin.Test.{Test as TestKind}
-use Rattle.resin_builtin.specs.declared.builtin.Test.TheVariants.{Null as IsNull, Bool as IsBool, Int as IsInt, Text as IsText, Array as IsArray, Object as IsObject, Numeric as IsNumeric}
+use Rattle.resin_builtin.specs.declared.builtin.Test.TheVariants.{Null as IsNull, Bool as IsBool, Int as IsInt, Text as IsText}
+use Rattle.resin_builtin.specs.declared.builtin.Test.TheVariants.{Array as IsArray, Object as IsObject, Numeric as IsNumeric}
 use Rattle.resin_builtin.specs.declared.builtin.OneArray.{OneArray as ArrayRow}
 use Rattle.resin_builtin.specs.declared.builtin.OneArray.TheVariants.{Count, Keys, Values}
-use Rattle.resin_builtin.specs.Arguments.{as_text, as_number, as_integer, or_default, text_at, number_at, integer_at, array_at, value_at, count_at, flag_at}
+use Rattle.resin_builtin.specs.Arguments.{as_text, as_number, as_integer, or_default, text_at}
+use Rattle.resin_builtin.specs.Arguments.{number_at, integer_at, array_at, value_at, count_at, flag_at}
 
 -- ---- answers as values; lengths, places and booleans carry nothing
 

@@ -2,7 +2,9 @@
 use Rattle.std.specs.Prelude.{ℕ, ◌+◌, Bool, true, false, ◌==◌, ◌&&◌, ◌||◌, nat_le, List, [], ◌∷◌, ◌++◌, length, Option, Some, None, unwrap_or}
 use Rattle.std.specs.List.{slice_get}
 use Rattle.resin_builtin.specs.declared.builtin.Builtin.{Builtin}
-use Rattle.resin_builtin.specs.declared.builtin.Builtin.TheVariants.{OneText, Digest, TwoTexts, Trim, OneInteger, Test, OneArray, Substr, Strpos, StrReplace, StrRepeat, Implode, StrPad, Sprintf, Intval, Intdiv, GetClass, ArrayMerge, ArraySlice, ArrayReverse, InArray, ArrayKeyExists}
+use Rattle.resin_builtin.specs.declared.builtin.Builtin.TheVariants.{OneText, Digest, TwoTexts, Trim, OneInteger, Test, OneArray, Substr}
+use Rattle.resin_builtin.specs.declared.builtin.Builtin.TheVariants.{Strpos, StrReplace, StrRepeat, Implode, StrPad, Sprintf, Intval, Intdiv}
+use Rattle.resin_builtin.specs.declared.builtin.Builtin.TheVariants.{GetClass, ArrayMerge, ArraySlice, ArrayReverse, InArray, ArrayKeyExists}
 use Rattle.resin_builtin.specs.declared.signatures.ArgKind.{ArgKind}
 use Rattle.resin_builtin.specs.declared.signatures.ArgKind.TheVariants.{Text, Integer, Array, TextOrArray, Any}
 use Rattle.resin_builtin.specs.declared.signatures.Sig.{Sig}

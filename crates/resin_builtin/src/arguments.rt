@@ -3,7 +3,8 @@ ghost use Rattle.std.specs.Prelude.{◌≡◌, ℕ, Ok, Err, Some, None, MatchRe
 ghost use Rattle.std.specs.List.{slice_get};
 ghost use Rattle.std.specs.Option.{option_map};
 ghost use Rattle.resin_array_fn.specs.Under.value.Seen.{tree_of, trees_of};
-ghost use Rattle.resin_builtin.specs.Arguments.{as_text, as_number, as_integer, as_array, as_count, text_at, number_at, integer_at, array_at, value_at, count_at, flag_at, or_default};
+ghost use Rattle.resin_builtin.specs.Arguments.{as_text, as_number, as_integer, as_array, as_count, text_at, number_at};
+ghost use Rattle.resin_builtin.specs.Arguments.{integer_at, array_at, value_at, count_at, flag_at, or_default};
 
 use resin_array_fn::under::value::{Arr, Value};
 use resin_format::under::lstr::LText;

@@ -1,6 +1,7 @@
 //! The names of the builtin functions.
 ghost use Rattle.std.specs.Prelude.{◌≡◌};
-ghost use Rattle.resin_builtin.specs.Names.{named, builtin_named, search_names, part_names, join_names, escape_names, number_names, test_names, array_names};
+ghost use Rattle.resin_builtin.specs.Names.{named, builtin_named, search_names, part_names, join_names};
+ghost use Rattle.resin_builtin.specs.Names.{escape_names, number_names, test_names, array_names};
 
 use crate::builtin::{Builtin, Digest, OneArray, OneInteger, OneText, Test, TrimSide, TwoTexts};
 use resin_scan::words::spells;

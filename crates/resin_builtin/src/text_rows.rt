@@ -7,7 +7,8 @@ ghost use Rattle.resin_array_fn.specs.Filled.{and_then};
 ghost use Rattle.std.specs.Prelude.{◌≡◌, Ok, IfOk};
 ghost use Rattle.resin_format.specs.Under.label.Sets.{empty};
 ghost use Rattle.resin_format.specs.Under.lstr.Texts.{carrying};
-ghost use Rattle.resin_builtin.specs.Rows.{trimmed, one_text_row, digest_row, two_text_row, trim_row, substr_row, strpos_row, str_repeat_row, implode_row, str_pad_row};
+ghost use Rattle.resin_builtin.specs.Rows.{trimmed, one_text_row, digest_row, two_text_row, trim_row};
+ghost use Rattle.resin_builtin.specs.Rows.{substr_row, strpos_row, str_repeat_row, implode_row, str_pad_row};
 
 use crate::answers::{array_value, bool_value, number_value, place_value, text_value};
 use crate::arguments::{array_at, count_at, number_at, number_or, text_at, text_or};

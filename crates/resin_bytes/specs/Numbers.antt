@@ -1,5 +1,6 @@
 -- Numbers at the front of a text (PHP manual, "Numeric strings", in this project's profile: integers have 64 bits and floats are only told).
-use Rattle.std.specs.Prelude.{ℕ, ◌+◌, ◌-◌, ◌*◌, ◌^◌, ◌==◌, ◌&&◌, ◌||◌, nat_lt, nat_le, not, Bool, false, List, [], ◌∷◌, drop, take, fold, pos, neg_ℤ, if◌then◌else◌}
+use Rattle.std.specs.Prelude.{ℕ, ◌+◌, ◌-◌, ◌*◌, ◌^◌, ◌==◌, ◌&&◌, ◌||◌, nat_lt, nat_le, not, Bool, false}
+use Rattle.std.specs.Prelude.{List, [], ◌∷◌, drop, take, fold, pos, neg_ℤ, if◌then◌else◌}
 use Rattle.std.specs.Char.{is_ascii_digit}
 use Rattle.std.specs.List.{position_or_len, list_all}
 use Rattle.resin_bytes.specs.declared.number.NumberForm.{NumberForm}
@@ -69,7 +70,8 @@ integer_form negative digits =
 abbrev pub front_form : List ℕ → NumberForm
 front_form s =
     if number_len (unsigned s) == 0 then Not
-    else (if number_len (unsigned s) == digits_len (unsigned s) then integer_form (is_negative s) (take (digits_len (unsigned s)) (unsigned s)) else Float)
+    else (if number_len (unsigned s) == digits_len (unsigned s)
+    then integer_form (is_negative s) (take (digits_len (unsigned s)) (unsigned s)) else Float)
 
 -- a text without the blanks before it
 abbrev pub unblanked : List ℕ → List ℕ

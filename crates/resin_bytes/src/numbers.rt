@@ -1,7 +1,8 @@
 //! Reading the number that a text is or begins with.
 ghost use Rattle.std.specs.Prelude.{◌≡◌, ◌≤◌, ◌^◌, ◌-◌, min, pos, neg_ℤ, length, nat_le};
 ghost use Rattle.std.specs.List.{list_all};
-ghost use Rattle.resin_bytes.specs.Numbers.{is_blank, blanks_len, digits_len, sign_len, is_negative, fraction_len, exponent_len, mantissa_len, number_len, decimal_value, integer_form, front_form, leading_form, numeric_form};
+ghost use Rattle.resin_bytes.specs.Numbers.{is_blank, blanks_len, digits_len, sign_len, is_negative, fraction_len, exponent_len};
+ghost use Rattle.resin_bytes.specs.Numbers.{mantissa_len, number_len, decimal_value, integer_form, front_form, leading_form, numeric_form};
 
 use crate::number::NumberForm;
 

@@ -1,5 +1,5 @@
-//! Assignments: the index expressions of the target come first, then the right side, then the old value where the form needs it, and last the value is
-//! stored.
+//! Assignments: the index expressions of the target come first, then the right side, then the old value where the form needs it, and last
+//! the value is stored.
 ghost use Rattle.resin_eval_merges.specs.Under.meaning_forms.Forms as form;
 ghost use Rattle.resin_eval_merges.specs.Under.eval_nested.Nested.{Nests, means};
 ghost use Rattle.resin_eval_merges.specs.Under.eval_nested.Running.{Performs};
@@ -132,7 +132,9 @@ impl<
     // One more, or one less.
     fn stepped(&self, run: &mut Run<F, T>, up: bool, v: &Value) -> Result<Value, Stop>
         requires { Nests F.Files T.Tables N.pre N.post self.now.by.now }
-        ensures { Performs F.Files T.Tables ((if up then form.incremented (means self.now.by.now) else form.decremented (means self.now.by.now)) v.now) run.old result run.new }
+        ensures { Performs F.Files T.Tables
+            ((if up then form.incremented (means self.now.by.now) else form.decremented (means self.now.by.now)) v.now)
+            run.old result run.new }
     {
         if up {
             return Merger { by: self.by }.incremented(run, v);
@@ -143,7 +145,9 @@ impl<
     // Counts a target up or down: the value that stood before, and the one that is stored.
     fn counted(&self, run: &mut Run<F, T>, up: bool, t: &Target) -> Result<(Value, Value), Stop>
         requires { Nests F.Files T.Tables N.pre N.post self.now.by.now }
-        ensures { Performs F.Files T.Tables (form.changed (means self.now.by.now) (if up then form.incremented (means self.now.by.now) else form.decremented (means self.now.by.now)) t.now) run.old result run.new }
+        ensures { Performs F.Files T.Tables (form.changed (means self.now.by.now)
+            (if up then form.incremented (means self.now.by.now) else form.decremented (means self.now.by.now)) t.now)
+            run.old result run.new }
     {
         let path = self.steps(run, t.path.as_slice())?;
         let old = fetch(self.by.alloc, &mut run.machine, &t.variable, &path)?;
@@ -153,9 +157,9 @@ impl<
         Ok((old, answer))
     }
 
-    /// A form that writes to a target: its value is the one that is stored, for `x++` and `x--` the one that stood there before, and for `??=` the one that stands
-    /// there if that isn't null. It stops as the expressions in it do, as the operator does, and, as `resin_target::store` says, where nothing can be stored
-    /// there.
+    /// A form that writes to a target: its value is the one that is stored, for `x++` and `x--` the one that stood there before, and for
+    /// `??=` the one that stands there if that isn't null. It stops as the expressions in it do, as the operator does, and, as
+    /// `resin_target::store` says, where nothing can be stored there.
     pub fn assignment(&self, run: &mut Run<F, T>, a: &Assignment) -> Result<Value, Stop>
         requires { Nests F.Files T.Tables N.pre N.post self.now.by.now }
         ensures { Performs F.Files T.Tables (form.assignment_form (means self.now.by.now) a.now) run.old result run.new }

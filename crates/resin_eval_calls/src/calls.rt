@@ -54,7 +54,8 @@ impl<
         args: &Values,
     ) -> Result<Values, Stop>
         requires { Nests F.Files T.Tables N.pre N.post self.now.by.now }
-        ensures { Performs F.Files T.Tables (form.filter_function (means self.now.by.now) name.now filter (map tree_of args.now)) run.old (on_ok trees_of result) run.new }
+        ensures { Performs F.Files T.Tables (form.filter_function (means self.now.by.now) name.now filter (map tree_of args.now))
+            run.old (on_ok trees_of result) run.new }
     {
         let list = run.machine.settle(list(self.by.alloc, args.as_slice()))?;
         let mut asked = Values::new(self.by.alloc);
@@ -77,7 +78,8 @@ impl<
         args: Values,
     ) -> Result<Values, Stop>
         requires { Nests F.Files T.Tables N.pre N.post self.now.by.now }
-        ensures { Performs F.Files T.Tables (form.ask_function_filters (means self.now.by.now) name.now chain.now (map tree_of args)) run.old (on_ok trees_of result) run.new }
+        ensures { Performs F.Files T.Tables (form.ask_function_filters (means self.now.by.now) name.now chain.now (map tree_of args))
+            run.old (on_ok trees_of result) run.new }
     {
         let mut args = args;
         for f in chain {
@@ -93,7 +95,8 @@ impl<
     // The arguments as the filters of a function leave them; its chain is taken as it stands now.
     fn filtered(&self, run: &mut Run<F, T>, name: &[u8], args: Values) -> Result<Values, Stop>
         requires { Nests F.Files T.Tables N.pre N.post self.now.by.now }
-        ensures { Performs F.Files T.Tables (form.filtered (means self.now.by.now) name.now (map tree_of args)) run.old (on_ok trees_of result) run.new }
+        ensures { Performs F.Files T.Tables (form.filtered (means self.now.by.now) name.now (map tree_of args))
+            run.old (on_ok trees_of result) run.new }
     {
         let name = lowered(self.by.alloc, name)?;
         let chain = run
@@ -104,9 +107,11 @@ impl<
         self.ask_function_filters(run, name.as_slice(), chain.as_slice(), args)
     }
 
-    /// Calls a function that was found, once its arguments are evaluated. The filters of its name are asked first, in turn, and their answer is what it gets.
+    /// Calls a function that was found, once its arguments are evaluated. The filters of its name are asked first, in turn, and their
+    /// answer is what it gets.
     ///
-    /// A filter that answers no array is the fault BadOperand; what a filter throws is noted as a denial on `func`, and goes on. Else it stops as the function does.
+    /// A filter that answers no array is the fault BadOperand; what a filter throws is noted as a denial on `func`, and goes on. Else it
+    /// stops as the function does.
     pub fn call_found(
         &self,
         run: &mut Run<F, T>,
@@ -136,7 +141,8 @@ impl<
         constructor: &Option<Method>,
     ) -> Result<(), Stop>
         requires { Nests F.Files T.Tables N.pre N.post self.now.by.now }
-        ensures { Performs F.Files T.Tables (constructed (means self.now.by.now) o args (option_map seen_method constructor.now)) run.old result run.new }
+        ensures { Performs F.Files T.Tables (constructed (means self.now.by.now) o args (option_map seen_method constructor.now))
+            run.old result run.new }
     {
         match constructor {
             Some(found) => {
@@ -234,8 +240,8 @@ impl<
         Importer { by: self.by }.import(run, kind, &v)
     }
 
-    /// A call as it is written: of a function, a method, a method of the parent class, `new`, or an import. What it reaches is found first, then its arguments are evaluated from
-    /// the left, and then it runs. A constructor runs where the class has one.
+    /// A call as it is written: of a function, a method, a method of the parent class, `new`, or an import. What it reaches is found first,
+    /// then its arguments are evaluated from the left, and then it runs. A constructor runs where the class has one.
     ///
     /// What isn't there is the fault that says so: UndefinedFunction, UndefinedMethod, UndefinedClass; what is no object is BadOperand. Else it stops
     /// as its parts, the import and the code that it runs do.

@@ -83,8 +83,8 @@ impl<
     T: Tables,
     N: Fn(Global, u32, Nested<'_>, &mut Run<F, T>) -> Result<Outcome, Stop> + Copy,
 > Importer<'_, F, T, N> {
-    /// The text of an entry as source text: it is thawed, and passes the filters of source text; its labels mean nothing from there on. Then the path counts as
-    /// imported.
+    /// The text of an entry as source text: it is thawed, and passes the filters of source text; its labels mean nothing from there on.
+    /// Then the path counts as imported.
     ///
     /// # Errors
     ///
@@ -120,7 +120,8 @@ impl<
         found: &Option<Entry>,
     ) -> Result<Value, Stop>
         requires { Nests F.Files T.Tables N.pre N.post self.now.by.now }
-        ensures { Performs F.Files T.Tables (imports.run_found (means self.now.by.now) kind path.now (option_map lift found.now)) run.old result run.new }
+        ensures { Performs F.Files T.Tables (imports.run_found (means self.now.by.now) kind path.now (option_map lift found.now))
+            run.old result run.new }
     {
         match found {
             Some(e) => self.run_entry(run, path, e),
@@ -154,14 +155,14 @@ impl<
         self.run_path(run, kind, path)
     }
 
-    /// Imports the file whose path is the text of a value. It is the value that the file returns, else 1. Where the path was imported, a `_once` form is true, and
-    /// nothing is read; where there is no such file, `include` and `include_once` are false.
+    /// Imports the file whose path is the text of a value. It is the value that the file returns, else 1. Where the path was imported, a
+    /// `_once` form is true, and nothing is read; where there is no such file, `include` and `include_once` are false.
     ///
     /// # Errors
     ///
-    /// `ChannelInCheck` in a check, a merge or a filter of the runtime; `BadOperand` where the value is no text; an exception of `ValueError` where no file may have
-    /// the path, and of `Error` where `require` or `require_once` finds no file; `TextTooLong` and `BadShadow` where the entry can't be thawed; `Syntax` and `TooDeep` with
-    /// the line in that file; and how a filter, a declaration or a statement of the file stops.
+    /// `ChannelInCheck` in a check, a merge or a filter of the runtime; `BadOperand` where the value is no text; an exception of `ValueError`
+    /// where no file may have the path, and of `Error` where `require` or `require_once` finds no file; `TextTooLong` and `BadShadow` where the
+    /// entry can't be thawed; `Syntax` and `TooDeep` with the line in that file; and how a filter, a declaration or a statement of the file stops.
     pub fn import(&self, run: &mut Run<F, T>, kind: Import, v: &Value) -> Result<Value, Stop>
         requires { Nests F.Files T.Tables N.pre N.post self.now.by.now }
         ensures { Performs F.Files T.Tables (imports.import_value (means self.now.by.now) kind v.now) run.old result run.new }

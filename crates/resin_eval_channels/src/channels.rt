@@ -1,8 +1,11 @@
 //! Functions of channels once their arguments are evaluated: headers, the status, mail, output buffers, files and tables.
-ghost use Rattle.resin_eval_queries.specs.Under.meaning_forms.Channels.{flushed, is_count, is_one_line, is_open, leave_status, mail_context, only_looks, status_in, text_or_false};
+ghost use Rattle.resin_eval_queries.specs.Under.meaning_forms.Channels.{flushed, is_count, is_one_line, is_open, leave_status};
+ghost use Rattle.resin_eval_queries.specs.Under.meaning_forms.Channels.{mail_context, only_looks, status_in, text_or_false};
 ghost use Rattle.resin_eval_queries.specs.Under.meaning_forms.Forms as form;
 ghost use Rattle.resin_eval_queries.specs.Under.meaning_forms.Runs.{Runs, on_ok};
-ghost use Rattle.resin_eval_queries.specs.Under.meaning_forms.declared.callee.ChannelFunction.TheVariants.{FileExists, FileGetContents, FilePutContents, Header, Mail, ResponseCode, SqlQuery, Unlink};
+ghost use Rattle.resin_eval_queries.specs.Under.meaning_forms.declared.callee.ChannelFunction.TheVariants.{FileExists, FileGetContents};
+ghost use Rattle.resin_eval_queries.specs.Under.meaning_forms.declared.callee.ChannelFunction.TheVariants.{FilePutContents, Header, Mail};
+ghost use Rattle.resin_eval_queries.specs.Under.meaning_forms.declared.callee.ChannelFunction.TheVariants.{ResponseCode, SqlQuery, Unlink};
 ghost use Rattle.resin_eval_queries.specs.Under.eval_nested.Nested.{Nests, means};
 ghost use Rattle.resin_eval_queries.specs.Under.eval_nested.Running.{Performs};
 ghost use Rattle.resin_eval_queries.specs.Under.lstr.Texts.{bytes_of};
@@ -91,7 +94,8 @@ impl<
     // The status that was, once this one is written.
     fn set_status(&self, run: &mut Run<F, T>, n: &Value) -> Result<Value, Stop>
         requires { Nests F.Files T.Tables N.pre N.post self.now.by.now }
-        ensures { Performs F.Files T.Tables (form.set_status (means self.now.by.now) (form.status_of (tree_of n.now)) (tree_of n.now)) run.old (on_ok tree_of result) run.new }
+        ensures { Performs F.Files T.Tables (form.set_status (means self.now.by.now) (form.status_of (tree_of n.now)) (tree_of n.now))
+            run.old (on_ok tree_of result) run.new }
     {
         let Some(status) = status_of(n) else {
             return run.machine.throw(PreludeClass::ValueError, b"");
@@ -104,7 +108,8 @@ impl<
     // A status is set by the first argument.
     fn status_work(&self, run: &mut Run<F, T>, args: &[Value]) -> Result<Value, Stop>
         requires { Nests F.Files T.Tables N.pre N.post self.now.by.now }
-        ensures { Performs F.Files T.Tables (form.channel_work (means self.now.by.now) ResponseCode (trees_of args.now)) run.old (on_ok tree_of result) run.new }
+        ensures { Performs F.Files T.Tables (form.channel_work (means self.now.by.now) ResponseCode (trees_of args.now))
+            run.old (on_ok tree_of result) run.new }
     {
         match args {
             [n, ..] => self.set_status(run, n),
@@ -115,7 +120,8 @@ impl<
     // A header line leaves: the first argument, whether it takes the place of others being the second.
     fn header_work(&self, run: &mut Run<F, T>, args: &[Value]) -> Result<Value, Stop>
         requires { Nests F.Files T.Tables N.pre N.post self.now.by.now }
-        ensures { Performs F.Files T.Tables (form.channel_work (means self.now.by.now) Header (trees_of args.now)) run.old (on_ok tree_of result) run.new }
+        ensures { Performs F.Files T.Tables (form.channel_work (means self.now.by.now) Header (trees_of args.now))
+            run.old (on_ok tree_of result) run.new }
     {
         let [line, rest @ ..] = args else {
             return unfit(&run.machine);
@@ -139,7 +145,9 @@ impl<
         message: &LText,
     ) -> Result<Value, Stop>
         requires { Nests F.Files T.Tables N.pre N.post self.now.by.now }
-        ensures { Performs F.Files T.Tables (form.channel_work (means self.now.by.now) Mail (text_tree to.now ∷ text_tree subject.now ∷ text_tree message.now ∷ [])) run.old (on_ok tree_of result) run.new }
+        ensures { Performs F.Files T.Tables
+            (form.channel_work (means self.now.by.now) Mail (text_tree to.now ∷ text_tree subject.now ∷ text_tree message.now ∷ []))
+            run.old (on_ok tree_of result) run.new }
     {
         if !are_one_line(to, subject) {
             return run.machine.throw(PreludeClass::ValueError, b"");
@@ -160,7 +168,9 @@ impl<
         message: &Value,
     ) -> Result<Value, Stop>
         requires { Nests F.Files T.Tables N.pre N.post self.now.by.now }
-        ensures { Performs F.Files T.Tables (form.channel_work (means self.now.by.now) Mail (tree_of to.now ∷ tree_of subject.now ∷ tree_of message.now ∷ [])) run.old (on_ok tree_of result) run.new }
+        ensures { Performs F.Files T.Tables
+            (form.channel_work (means self.now.by.now) Mail (tree_of to.now ∷ tree_of subject.now ∷ tree_of message.now ∷ []))
+            run.old (on_ok tree_of result) run.new }
     {
         match to {
             Value::Text(to) => match subject {
@@ -177,7 +187,8 @@ impl<
     // A mail leaves: to whom, the subject and the message are the arguments.
     fn mail_work(&self, run: &mut Run<F, T>, args: &[Value]) -> Result<Value, Stop>
         requires { Nests F.Files T.Tables N.pre N.post self.now.by.now }
-        ensures { Performs F.Files T.Tables (form.channel_work (means self.now.by.now) Mail (trees_of args.now)) run.old (on_ok tree_of result) run.new }
+        ensures { Performs F.Files T.Tables (form.channel_work (means self.now.by.now) Mail (trees_of args.now))
+            run.old (on_ok tree_of result) run.new }
     {
         match args {
             [to, subject, message, ..] => self.mail_of(run, to, subject, message),
@@ -202,7 +213,8 @@ impl<
     // A file is written: its path, the data and perhaps the flags are the arguments.
     fn put_work(&self, run: &mut Run<F, T>, args: &[Value]) -> Result<Value, Stop>
         requires { Nests F.Files T.Tables N.pre N.post self.now.by.now }
-        ensures { Performs F.Files T.Tables (form.channel_work (means self.now.by.now) FilePutContents (trees_of args.now)) run.old (on_ok tree_of result) run.new }
+        ensures { Performs F.Files T.Tables (form.channel_work (means self.now.by.now) FilePutContents (trees_of args.now))
+            run.old (on_ok tree_of result) run.new }
     {
         let [path, data, rest @ ..] = args else {
             return unfit(&run.machine);
@@ -219,7 +231,8 @@ impl<
     // A file is read: its path is the first argument.
     fn get_work(&self, run: &mut Run<F, T>, args: &[Value]) -> Result<Value, Stop>
         requires { Nests F.Files T.Tables N.pre N.post self.now.by.now }
-        ensures { Performs F.Files T.Tables (form.channel_work (means self.now.by.now) FileGetContents (trees_of args.now)) run.old (on_ok tree_of result) run.new }
+        ensures { Performs F.Files T.Tables (form.channel_work (means self.now.by.now) FileGetContents (trees_of args.now))
+            run.old (on_ok tree_of result) run.new }
     {
         let [path, ..] = args else {
             return unfit(&run.machine);
@@ -232,7 +245,8 @@ impl<
 
     // A file is taken out: its path is the first argument.
     fn unlink_work(&self, run: &mut Run<F, T>, args: &[Value]) -> Result<Value, Stop>
-        ensures { Performs F.Files T.Tables (form.channel_work (means self.now.by.now) Unlink (trees_of args.now)) run.old (on_ok tree_of result) run.new }
+        ensures { Performs F.Files T.Tables (form.channel_work (means self.now.by.now) Unlink (trees_of args.now))
+            run.old (on_ok tree_of result) run.new }
     {
         let [path, ..] = args else {
             return unfit(&run.machine);
@@ -245,7 +259,8 @@ impl<
 
     // A file is looked for: its path is the first argument.
     fn exists_work(&self, run: &mut Run<F, T>, args: &[Value]) -> Result<Value, Stop>
-        ensures { Performs F.Files T.Tables (form.channel_work (means self.now.by.now) FileExists (trees_of args.now)) run.old (on_ok tree_of result) run.new }
+        ensures { Performs F.Files T.Tables (form.channel_work (means self.now.by.now) FileExists (trees_of args.now))
+            run.old (on_ok tree_of result) run.new }
     {
         let [path, ..] = args else {
             return unfit(&run.machine);
@@ -259,7 +274,8 @@ impl<
     // A statement over tables: its text is the first argument.
     fn query_work(&self, run: &mut Run<F, T>, args: &[Value]) -> Result<Value, Stop>
         requires { Nests F.Files T.Tables N.pre N.post self.now.by.now }
-        ensures { Performs F.Files T.Tables (form.channel_work (means self.now.by.now) SqlQuery (trees_of args.now)) run.old (on_ok tree_of result) run.new }
+        ensures { Performs F.Files T.Tables (form.channel_work (means self.now.by.now) SqlQuery (trees_of args.now))
+            run.old (on_ok tree_of result) run.new }
     {
         let [query, ..] = args else {
             return unfit(&run.machine);
@@ -304,11 +320,11 @@ impl<
 
     /// A call of a function of a channel.
     ///
-    /// ChannelInCheck comes first, where a check, a merge or a filter that the runtime called makes the call, unless the function only looks. Then another count of
-    /// arguments throws ArgumentCountError; the arguments are turned into their kinds from the left; the texts among them are charged; then comes the work; and the text that
-    /// it gives is charged. ValueError is thrown for a status that may not be set, for a header line that sets no header, and for a mail whose address or subject has more
-    /// than one line. What leaves asks its filters and its policies, which may throw. A file that is read or written stops as `Shelf`
-    /// says, a statement over tables as `Querier` does.
+    /// ChannelInCheck comes first, where a check, a merge or a filter that the runtime called makes the call, unless the function only looks.
+    /// Then another count of arguments throws ArgumentCountError; the arguments are turned into their kinds from the left; the texts among
+    /// them are charged; then comes the work; and the text that it gives is charged. ValueError is thrown for a status that may not be set,
+    /// for a header line that sets no header, and for a mail whose address or subject has more than one line. What leaves asks its filters
+    /// and its policies, which may throw. A file that is read or written stops as `Shelf` says, a statement over tables as `Querier` does.
     pub fn channel_function(
         &self,
         run: &mut Run<F, T>,

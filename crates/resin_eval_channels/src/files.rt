@@ -1,5 +1,6 @@
 //! Functions on files once their arguments are evaluated: policies are kept beside the bytes, and come back with them.
-ghost use Rattle.resin_eval_queries.specs.Under.meaning_forms.Files.{append_flag, behind_found, behind_held, contents_of, exists, flags_in, get_contents, is_flag, put_contents, put_data, to_hold, unlink};
+ghost use Rattle.resin_eval_queries.specs.Under.meaning_forms.Files.{append_flag, behind_found, behind_held, contents_of, exists, flags_in};
+ghost use Rattle.resin_eval_queries.specs.Under.meaning_forms.Files.{get_contents, is_flag, put_contents, put_data, to_hold, unlink};
 ghost use Rattle.resin_eval_queries.specs.Under.meaning_forms.Reading as passing;
 ghost use Rattle.resin_eval_queries.specs.Under.meaning_forms.Runs.{Runs, on_ok};
 ghost use Rattle.resin_eval_queries.specs.Under.eval_nested.Nested.{Nests, means};
@@ -178,7 +179,8 @@ impl<
         found: Option<Entry>,
     ) -> Result<Value, Stop>
         requires { Nests F.Files T.Tables N.pre N.post self.now.by.now }
-        ensures { Performs F.Files T.Tables (contents_of (means self.now.by.now) path.now (option_map lift found)) run.old (on_ok tree_of result) run.new }
+        ensures { Performs F.Files T.Tables (contents_of (means self.now.by.now) path.now (option_map lift found))
+            run.old (on_ok tree_of result) run.new }
     {
         let Some(entry) = found else {
             return Ok(Value::Bool(false));
@@ -208,7 +210,8 @@ impl<
     // The data as the filters give it.
     fn passed(&self, run: &mut Run<F, T>, path: &[u8], text: &LText) -> Result<LText, Stop>
         requires { Nests F.Files T.Tables N.pre N.post self.now.by.now }
-        ensures { Performs F.Files T.Tables (passing.keep_through (means self.now.by.now) File (passing.path_context File path.now) text.now) run.old result run.new }
+        ensures { Performs F.Files T.Tables (passing.keep_through (means self.now.by.now) File (passing.path_context File path.now) text.now)
+            run.old result run.new }
     {
         let context = path_context(self.by.alloc, Channel::File, path)?;
         let given = text.clone()?;
@@ -236,8 +239,8 @@ impl<
     ///
     /// # Errors
     ///
-    /// ValueError for a path that no file may have, and for other flags than 0 and FILE_APPEND; how a filter stops; `NotStorable` for a policy that can't be
-    /// kept; `TextTooLong` and `BadShadow` of what is held; `Keeper` where a keeper call failed.
+    /// ValueError for a path that no file may have, and for other flags than 0 and FILE_APPEND; how a filter stops; `NotStorable` for a
+    /// policy that can't be kept; `TextTooLong` and `BadShadow` of what is held; `Keeper` where a keeper call failed.
     pub fn put_contents(
         &self,
         run: &mut Run<F, T>,

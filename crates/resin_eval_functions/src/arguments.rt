@@ -51,7 +51,8 @@ impl<
         value: Value,
     ) -> Result<Value, Stop>
         requires { Nests F.Files T.Tables N.pre N.post self.now.by.now }
-        ensures { Performs F.Files T.Tables (form.with_folded (means self.now.by.now) (tree_of argument.now) (tree_of value)) run.old (on_ok tree_of result) run.new }
+        ensures { Performs F.Files T.Tables (form.with_folded (means self.now.by.now) (tree_of argument.now) (tree_of value))
+            run.old (on_ok tree_of result) run.new }
     {
         match argument {
             Value::Text(t) => match value {
@@ -84,7 +85,8 @@ impl<
         v: &Value,
     ) -> Result<Value, Stop>
         requires { Nests F.Files T.Tables N.pre N.post self.now.by.now }
-        ensures { Performs F.Files T.Tables (format_argument (means self.now.by.now) format.now i (tree_of v.now)) run.old (on_ok tree_of result) run.new }
+        ensures { Performs F.Files T.Tables (format_argument (means self.now.by.now) format.now i (tree_of v.now))
+            run.old (on_ok tree_of result) run.new }
     {
         if int_places(format, i) {
             return self.cast_argument(run, v);
@@ -100,7 +102,8 @@ impl<
         rest: &[Value],
     ) -> Result<Values, Stop>
         requires { Nests F.Files T.Tables N.pre N.post self.now.by.now }
-        ensures { Performs F.Files T.Tables (format_arguments (means self.now.by.now) format.now (text_tree format.now ∷ []) 0 (trees_of rest.now)) run.old (on_ok trees_of result) run.new }
+        ensures { Performs F.Files T.Tables (format_arguments (means self.now.by.now) format.now (text_tree format.now ∷ []) 0 (trees_of rest.now))
+            run.old (on_ok trees_of result) run.new }
     {
         let mut out = Values::new(self.by.alloc);
         out.push(Value::Text(format.clone()?))?;
@@ -116,7 +119,9 @@ impl<
     // An argument as a value of its kind.
     fn argument(&self, run: &mut Run<F, T>, sig: &Sig, i: u8, v: &Value) -> Result<Value, Stop>
         requires { Nests F.Files T.Tables N.pre N.post self.now.by.now }
-        ensures { Performs F.Files T.Tables (argument (means self.now.by.now) (kind_at (parameters sig.now.builtin) i) (null_is_default sig.now.builtin i) (tree_of v.now)) run.old (on_ok tree_of result) run.new }
+        ensures { Performs F.Files T.Tables (argument (means self.now.by.now)
+            (kind_at (parameters sig.now.builtin) i) (null_is_default sig.now.builtin i) (tree_of v.now))
+            run.old (on_ok tree_of result) run.new }
     {
         let turned = sig.turned(self.by.alloc, i, v);
         let turned = run.machine.settle(turned)?;
@@ -132,7 +137,8 @@ impl<
     ) -> Result<Values, Stop>
         requires nests { Nests F.Files T.Tables N.pre N.post self.now.by.now }
         requires format { sig.now.builtin ≡ Sprintf }
-        ensures { Performs F.Files T.Tables (form.sprintf_arguments (means self.now.by.now) (trees_of args.now)) run.old (on_ok trees_of result) run.new }
+        ensures { Performs F.Files T.Tables (form.sprintf_arguments (means self.now.by.now) (trees_of args.now))
+            run.old (on_ok trees_of result) run.new }
     {
         let [first, rest @ ..] = args else {
             return Ok(Values::new(self.by.alloc));
@@ -152,7 +158,8 @@ impl<
         args: &[Value],
     ) -> Result<Values, Stop>
         requires { Nests F.Files T.Tables N.pre N.post self.now.by.now }
-        ensures { Performs F.Files T.Tables (arguments_on (means self.now.by.now) sig.now.builtin [] 0 (trees_of args.now)) run.old (on_ok trees_of result) run.new }
+        ensures { Performs F.Files T.Tables (arguments_on (means self.now.by.now) sig.now.builtin [] 0 (trees_of args.now))
+            run.old (on_ok trees_of result) run.new }
     {
         let mut out = Values::new(self.by.alloc);
         let mut i = 0;
@@ -167,7 +174,8 @@ impl<
     // The arguments, turned into their kinds from the left.
     fn arguments(&self, run: &mut Run<F, T>, sig: &Sig, args: &[Value]) -> Result<Values, Stop>
         requires { Nests F.Files T.Tables N.pre N.post self.now.by.now }
-        ensures { Performs F.Files T.Tables (form.arguments (means self.now.by.now) sig.now.builtin (trees_of args.now)) run.old (on_ok trees_of result) run.new }
+        ensures { Performs F.Files T.Tables (form.arguments (means self.now.by.now) sig.now.builtin (trees_of args.now))
+            run.old (on_ok trees_of result) run.new }
     {
         match sig.builtin {
             Builtin::Sprintf => self.format_arguments(run, sig, args),
@@ -192,7 +200,8 @@ impl<
     // What two integers carry.
     fn quotient_set(&self, run: &mut Run<F, T>, a: &Value, b: &Value) -> Result<PSet, Stop>
         requires { Nests F.Files T.Tables N.pre N.post self.now.by.now }
-        ensures { Performs F.Files T.Tables (form.answer_set (means self.now.by.now) Intdiv (tree_of a.now ∷ tree_of b.now ∷ [])) run.old result run.new }
+        ensures { Performs F.Files T.Tables (form.answer_set (means self.now.by.now) Intdiv (tree_of a.now ∷ tree_of b.now ∷ []))
+            run.old result run.new }
     {
         match a {
             Value::Int(_, left) => match b {
@@ -234,8 +243,8 @@ impl<
 
     /// A call of a function that works on its arguments alone; the name is one of its own.
     ///
-    /// Another count of arguments throws ArgumentCountError. An argument that isn't of its kind stops the call before the work, the leftmost one first; the work spends
-    /// ticks, and throws or is the fault that the function's rows say.
+    /// Another count of arguments throws ArgumentCountError. An argument that isn't of its kind stops the call before the work, the
+    /// leftmost one first; the work spends ticks, and throws or is the fault that the function's rows say.
     pub fn builtin(
         &self,
         run: &mut Run<F, T>,
@@ -278,7 +287,8 @@ impl<
         args: &[Value],
     ) -> Result<Values, Stop>
         requires { Nests F.Files T.Tables N.pre N.post self.now.by.now }
-        ensures { Performs F.Files T.Tables (form.arguments_of (means self.now.by.now) kinds.now (trees_of args.now)) run.old (on_ok trees_of result) run.new }
+        ensures { Performs F.Files T.Tables (form.arguments_of (means self.now.by.now) kinds.now (trees_of args.now))
+            run.old (on_ok trees_of result) run.new }
     {
         let mut out = Values::new(self.by.alloc);
         let mut i = 0;
@@ -293,8 +303,8 @@ impl<
 
     /// A call of a function that works on the state.
     ///
-    /// Another count of arguments throws ArgumentCountError. The arguments are turned into their kinds from the left, what the work takes is charged, then comes the work,
-    /// whose throws and faults are the call's, and then what it gives is charged.
+    /// Another count of arguments throws ArgumentCountError. The arguments are turned into their kinds from the left, what the work takes
+    /// is charged, then comes the work, whose throws and faults are the call's, and then what it gives is charged.
     pub fn state_function(
         &self,
         run: &mut Run<F, T>,

@@ -1,7 +1,7 @@
 -- Classes that have the runtime's own `merge`, and what it answers.
 use Rattle.std.proofs.Common.{◌≡◌, ℕ, zero, suc, ◌+◌, ◌≤◌, max, ℤ, pos, ◌+ℤ◌, Bool, true, false, cond, List, [], ◌∷◌, ◌++◌, map, length, is_some, Option, None, Some, Result, Ok, Err, refl, sym, ap, subst, ◌∙◌, arith}
 use Rattle.std.specs.Prelude.{◌||◌, ◌&&◌, codes, nat_eq, nat_le, int_lt}
-use Rattle.std.specs.List.{list_any, list_all}
+use Rattle.std.specs.List.{list_any}
 use Rattle.std.specs.Option.{option_map_or, option_map, option_and_then}
 use Rattle.std.specs.FinMap.{get-empty, contains_key, insert, empty as no_variables, empty as no_names}
 use Rattle.std.proofs.lemmas.Bool.{eq-eqb, or_right, lt-ltb}
@@ -12,7 +12,7 @@ use Rattle.resin_eval_nested.specs.Under.scalar.declared.faults.ScriptFault.TheV
 use Rattle.resin_eval_nested.specs.Under.value.declared.value.Value.{Value}
 use Rattle.resin_eval_nested.specs.Under.value.declared.value.Value.TheVariants.{Arr, Obj}
 use Rattle.resin_eval_nested.specs.Under.value.declared.key.Key.TheVariants.{Int}
-use Rattle.resin_eval_nested.specs.Under.value.Trees.{Tree, object}
+use Rattle.resin_eval_nested.specs.Under.value.Trees.{object}
 use Rattle.resin_eval_nested.specs.Under.value.Arrays.{Array}
 use Rattle.resin_eval_nested.specs.Under.value.Changes.{put, next_of, largest_with, empty as empty_array}
 use Rattle.resin_eval_nested.specs.Under.scope.Frames.{Frames, Variables}

@@ -8,7 +8,7 @@ use Rattle.resin_eval_nested.specs.Under.machine.Steps.{Act}
 use Rattle.resin_eval_nested.specs.Under.machine.Objects.{settled}
 use Rattle.resin_eval_nested.specs.Under.meaning.Programs.{Whole, Prog, give, on_value, then_by, ◌>>=◌, act, within}
 use Rattle.resin_eval_nested.specs.Under.meaning.Runs.{World, IsAt, Does, does}
-use Rattle.resin_eval_nested.specs.Under.meaning_forms.Parts.{looked, computed, ◌>>◌}
+use Rattle.resin_eval_nested.specs.Under.meaning_forms.Parts.{looked, computed}
 use Rattle.resin_eval_nested.proofs.meaning_lemmas.Composition.{goes_nowhere, none_here}
 
 -- from one whole the program ends with a value and leaves another one, whatever calls are taken to fail

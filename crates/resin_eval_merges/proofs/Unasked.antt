@@ -1,17 +1,17 @@
 -- Merges of policies that answer themselves alone: they are unions, and change nothing.
-use Rattle.std.proofs.Common.{◌≡◌, ℕ, ◌+◌, ◌≤◌, Bool, true, false, cond, List, [], ◌∷◌, length, map, All, Ok, refl, sym, ap, subst, ◌∙◌, arith, ⊎_elim}
+use Rattle.std.proofs.Common.{◌≡◌, ℕ, ◌≤◌, Bool, true, false, cond, List, [], ◌∷◌, length, map, All, Ok, refl, sym, ap, subst, ◌∙◌, arith, ⊎_elim}
 use Rattle.std.specs.Prelude.{◌||◌, ◌&&◌, nat_eq, codes}
 use Rattle.std.specs.List.{list_any, list_all}
 use Rattle.std.proofs.lemmas.Bool.{eq-eqb, eqb-true, or_right, or_cases, and_parts, true≢false}
 use Rattle.std.proofs.lemmas.List.Elements.{All-head, All-tail}
-use Rattle.resin_eval_nested.specs.Under.label.Sets.{NumberSet, empty, contains, insert, insert_all, numbers, union}
+use Rattle.resin_eval_nested.specs.Under.label.Sets.{NumberSet, empty, contains, insert, numbers, union}
 use Rattle.resin_eval_nested.specs.Under.value.declared.value.Value.{Value}
 use Rattle.resin_eval_nested.specs.Under.value.declared.value.Value.TheVariants.{Arr}
 use Rattle.resin_eval_nested.specs.Under.value.Trees.{object}
 use Rattle.resin_eval_nested.specs.Under.machine.State.{State}
 use Rattle.resin_eval_nested.specs.Under.machine.Objects.{last_number}
 use Rattle.resin_eval_nested.specs.Under.machine.Steps.{hushed, unhushed}
-use Rattle.resin_eval_nested.specs.Under.meaning.Programs.{Whole, Prog, give, ◌>>=◌}
+use Rattle.resin_eval_nested.specs.Under.meaning.Programs.{Whole, give}
 use Rattle.resin_eval_nested.specs.Under.meaning.Runs.{World, IsAt, Does}
 use Rattle.resin_eval_nested.specs.Under.meaning_forms.Under.array_fn.Filled.{filled, in_order}
 use Rattle.resin_eval_nested.specs.Under.meaning_forms.Parts.{Evals, computed, looked}
@@ -52,9 +52,6 @@ adds so_far o at h =
     then (policies_in (Arr (alone o))) _ told (gives (insert so_far o) at)
 
 -- ---- policies one after the other
-
-among : List ℕ → ℕ → Bool
-among ps q = list_any (λ p. nat_eq p q) ps
 
 asks_each : (ev : Evals) (others ps : List ℕ) (so_far : NumberSet) (at : Whole) → length others ≤ most_keys → ((q : ℕ) → list_any (λ p. nat_eq p q) ps ≡ true → AnswersItself at.state q) → Ends (ask_merges ev others ps so_far) at (added so_far ps) at
 asks_each ev others [] so_far at few each = gives so_far at

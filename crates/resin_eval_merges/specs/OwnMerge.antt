@@ -1,4 +1,5 @@
--- Policies that answer themselves alone where they meet others: what they are asked is the `merge` that `Policy` declares (this project, after RESIN).
+-- Policies that answer themselves alone where they meet others: what they are asked is the `merge` that `Policy` declares (this project, after
+-- RESIN).
 use Rattle.std.specs.Prelude.{◌≡◌, ℕ, ◌≤◌, true, codes, Some}
 use Rattle.resin_eval_nested.specs.Under.heap.Classes.{Table, method_of}
 use Rattle.resin_eval_nested.specs.Under.heap.Objects.{class_at}
@@ -10,6 +11,7 @@ use Rattle.resin_eval_nested.specs.Under.machine.Objects.{is_object, last_number
 
 -- the `merge` that the objects of a class have is the one that `Policy` declares
 pub record HasOwnMerge (t : Table) (class : ℕ) : Type 0 where
+  -- the classes of the runtime stand first, so that `Policy` is the runtime's
   pub begins : StartsWithPrelude t
   pub at : MethodAt
   pub found : method_of t class (codes "merge") ≡ Some at

@@ -83,9 +83,9 @@ impl<
         self.ask_merges(run, left, right, first)
     }
 
-    /// What a value carries that is computed from two: nothing where neither carries a policy, and else what each policy of the first answers about those of
-    /// the second, and then each of the second about those of the first. BadOperand comes where one answers anything but an array of policies; what a merge
-    /// of a script ends with, as an exception, goes on.
+    /// What a value carries that is computed from two: nothing where neither carries a policy, and else what each policy of the first
+    /// answers about those of the second, and then each of the second about those of the first. BadOperand comes where one answers anything
+    /// but an array of policies; what a merge of a script ends with, as an exception, goes on.
     pub fn merge(&self, run: &mut Run<F, T>, a: &PSet, b: &PSet) -> Result<PSet, Stop>
         requires { Nests F.Files T.Tables N.pre N.post self.now.by.now }
         ensures { Performs F.Files T.Tables (form.merge (means self.now.by.now) a.now b.now) run.old result run.new }
@@ -124,7 +124,8 @@ impl<
         self.fold_on(run, first, rest)
     }
 
-    /// Sets as one, merged from the left; where there is none, nothing. A single set stays as it is, and no policy is asked. It stops as `merge` does.
+    /// Sets as one, merged from the left; where there is none, nothing. A single set stays as it is, and no policy is asked. It stops as
+    /// `merge` does.
     pub fn fold_sets(&self, run: &mut Run<F, T>, sets: &[PSet]) -> Result<PSet, Stop>
         requires { Nests F.Files T.Tables N.pre N.post self.now.by.now }
         ensures { Performs F.Files T.Tables (fold_sets (means self.now.by.now) sets.now) run.old result run.new }
@@ -139,8 +140,8 @@ impl<
         self.fold_asked(run, sets)
     }
 
-    /// What a text carries that is read as one value: its distinct sets as one, merged from the left in the order in which they first stand in it. A single
-    /// set stays as it is, and no policy is asked. It stops as `merge` does.
+    /// What a text carries that is read as one value: its distinct sets as one, merged from the left in the order in which they first stand
+    /// in it. A single set stays as it is, and no policy is asked. It stops as `merge` does.
     pub fn folded(&self, run: &mut Run<F, T>, t: &LText) -> Result<PSet, Stop>
         requires { Nests F.Files T.Tables N.pre N.post self.now.by.now }
         ensures { Performs F.Files T.Tables (form.folded (means self.now.by.now) t.now) run.old result run.new }
@@ -149,8 +150,8 @@ impl<
         self.fold_sets(run, sets.as_slice())
     }
 
-    /// What a value carries that was turned into a number: an integer its own set, a text its sets as one, and every other value nothing. It stops as `merge`
-    /// does.
+    /// What a value carries that was turned into a number: an integer its own set, a text its sets as one, and every other value nothing.
+    /// It stops as `merge` does.
     pub fn set_of_number(&self, run: &mut Run<F, T>, v: &Value) -> Result<PSet, Stop>
         requires { Nests F.Files T.Tables N.pre N.post self.now.by.now }
         ensures { Performs F.Files T.Tables (form.set_of_number (means self.now.by.now) (tree_of v.now)) run.old result run.new }
@@ -181,9 +182,10 @@ impl<
         Ok(Value::Int(n, set))
     }
 
-    /// A number or a text made of two values, as an operator and `+=` and its kin make it, with what both carry. BadOperand comes for an array or an object,
-    /// NotANumber and FloatNeeded for texts in arithmetic as `to_number` says, IntegerOverflow, FloatNeeded and DivisionByZeroError as the operator does,
-    /// TextTooLong for a text of more than 16,777,216 bytes, and FuelSpent where the texts cost more ticks than are left; and it stops as `merge` does.
+    /// A number or a text made of two values, as an operator and `+=` and its kin make it, with what both carry. BadOperand comes for an
+    /// array or an object, NotANumber and FloatNeeded for texts in arithmetic as `to_number` says, IntegerOverflow, FloatNeeded and
+    /// DivisionByZeroError as the operator does, TextTooLong for a text of more than 16,777,216 bytes, and FuelSpent where the texts cost
+    /// more ticks than are left; and it stops as `merge` does.
     pub fn combined(
         &self,
         run: &mut Run<F, T>,
@@ -216,9 +218,9 @@ impl<
         Ok(Value::Int(n, set))
     }
 
-    /// An operator or a cast on one value; a number has what the value carries. BadOperand comes for an array or an object where a number or a text is made,
-    /// NotANumber and FloatNeeded for texts as `to_number` and `to_int` say, IntegerOverflow for the negative of the least integer, and FuelSpent where the texts
-    /// cost more ticks than are left; and it stops as `merge` does.
+    /// An operator or a cast on one value; a number has what the value carries. BadOperand comes for an array or an object where a number
+    /// or a text is made, NotANumber and FloatNeeded for texts as `to_number` and `to_int` say, IntegerOverflow for the negative of the
+    /// least integer, and FuelSpent where the texts cost more ticks than are left; and it stops as `merge` does.
     pub fn unary(&self, run: &mut Run<F, T>, op: Unary, x: &Value) -> Result<Value, Stop>
         requires { Nests F.Files T.Tables N.pre N.post self.now.by.now }
         ensures { Performs F.Files T.Tables (form.unary (means self.now.by.now) op x.now) run.old result run.new }
@@ -237,8 +239,8 @@ impl<
         }
     }
 
-    /// One more than a value, for `++`: of an integer, or of null as 0. BadOperand comes for any other value, and IntegerOverflow above the largest integer;
-    /// and it stops as `merge` does, since the policies of the integer are asked.
+    /// One more than a value, for `++`: of an integer, or of null as 0. BadOperand comes for any other value, and IntegerOverflow above the
+    /// largest integer; and it stops as `merge` does, since the policies of the integer are asked.
     pub fn incremented(&self, run: &mut Run<F, T>, v: &Value) -> Result<Value, Stop>
         requires { Nests F.Files T.Tables N.pre N.post self.now.by.now }
         ensures { Performs F.Files T.Tables (form.incremented (means self.now.by.now) v.now) run.old result run.new }
@@ -255,8 +257,8 @@ impl<
         }
     }
 
-    /// One less than an integer, for `--`. BadOperand comes for any other value, null too, and IntegerOverflow below the least integer; and it stops as `merge`
-    /// does, since the policies of the integer are asked.
+    /// One less than an integer, for `--`. BadOperand comes for any other value, null too, and IntegerOverflow below the least integer; and
+    /// it stops as `merge` does, since the policies of the integer are asked.
     pub fn decremented(&self, run: &mut Run<F, T>, v: &Value) -> Result<Value, Stop>
         requires { Nests F.Files T.Tables N.pre N.post self.now.by.now }
         ensures { Performs F.Files T.Tables (form.decremented (means self.now.by.now) v.now) run.old result run.new }

@@ -18,8 +18,8 @@ use Rattle.resin_eval_nested.specs.declared.nested.Outcome.{Outcome}
 use Rattle.resin_eval_nested.specs.declared.nested.Outcome.TheVariants as outcome
 use Rattle.resin_eval_nested.specs.declared.run.Run.{Run}
 
--- what nests in an evaluation, where so many more may be open, goes from one world to another and ends so: an expression ends with a value, a statement with a
--- course, and what isn't stopped has spent a tick. A source text that is no longer than a text may be ends with a course too
+-- what nests in an evaluation, where so many more may be open, goes from one world to another and ends so: an expression ends with a value, a
+-- statement with a course, and what isn't stopped has spent a tick. A source text that is no longer than a text may be ends with a course too
 abbrev pub Ends : ℕ → Nested → World → Result Outcome Stop → World → Type 0
 Ends room (Value e) u (Ok (outcome.Value v)) w = Does ((evals room).expr e.now) u (Ok v) w × (w.state.ticks < u.state.ticks)
 Ends room (Value e) u (Ok (outcome.Course c)) w = ⊥
@@ -40,7 +40,8 @@ pub record NestsIn {F T : Type 0} (files : Files.Ghosts F) (tables : Tables.Ghos
     (post : Global → ℕ → Nested → MutBor (Run F T) → Result Outcome Stop → MutBor (Run F T) → Type 0)
     : Type 0 where
   pub callable : (g : Global) (n : Nested) (r : MutBor (Run F T)) → pre g room n r
-  pub ends : (g : Global) (n : Nested) (r r' : MutBor (Run F T)) (end : Result Outcome Stop) → post g room n r end r' → Ends room n (at files tables r.now) end (at files tables r'.now)
+  pub ends : (g : Global) (n : Nested) (r r' : MutBor (Run F T)) (end : Result Outcome Stop) → post g room n r end r'
+      → Ends room n (at files tables r.now) end (at files tables r'.now)
 
 -- the same of the function value of an evaluator
 abbrev pub Nests : {F T N : Type 0} → Files.Ghosts F → Tables.Ghosts T

@@ -21,9 +21,11 @@ impl<F: Files, T: Tables> Run<F, T> {
         read_file(&self.machine, &mut self.files, &mut self.calls, path)
     }
 
-    /// Sets the bytes and the shadow text at a path. Where the shadow text is what is written of policies of these bytes, it sets the bytes with these policies.
+    /// Sets the bytes and the shadow text at a path. Where the shadow text is what is written of policies of these bytes, it sets the bytes
+    /// with these policies.
     pub fn write_file(&mut self, path: &[u8], bytes: &[u8], shadow: &[u8]) -> Result<(), Stop>
-        ensures { (d : Marked) → AreWritten bytes.now shadow.now d → Performs F.Files T.Tables (asked.write_file path.now d) self.old result self.new }
+        ensures { (d : Marked) → AreWritten bytes.now shadow.now d → Performs F.Files T.Tables (asked.write_file path.now d)
+            self.old result self.new }
     {
         write_file(
             &self.machine,

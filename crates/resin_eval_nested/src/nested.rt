@@ -1,7 +1,7 @@
 //! What nests in an evaluation: expressions, statements and source texts, through a function value that evaluates them.
 //!
-//! A part of an evaluation doesn't call the evaluator itself, but is given it: so each part is proved on its own, by what the function value is required
-//! to do, and only the evaluator, which gives itself, recurs. It takes one evaluation off the room that is left each time.
+//! A part of an evaluation doesn't call the evaluator itself, but is given it: so each part is proved on its own, by what the function value
+//! is required to do, and only the evaluator, which gives itself, recurs. It takes one evaluation off the room that is left each time.
 ghost use Rattle.resin_step_objects.specs.Under.meaning_forms.Forms as form;
 ghost use Rattle.resin_eval_nested.specs.Nested.{Nests, means};
 ghost use Rattle.resin_eval_nested.specs.Running.{Performs};
@@ -41,8 +41,8 @@ pub enum Outcome {
     Course(Course),
 }
 
-/// Evaluates what nests in a form by a function value, where `room` more evaluations may be open. The forms themselves are methods, here and in structs of the crates
-/// above that hold one of these.
+/// Evaluates what nests in a form by a function value, where `room` more evaluations may be open. The forms themselves are methods, here
+/// and in structs of the crates above that hold one of these.
 #[derive(Drop)]
 pub struct Evaluator<F, T, N> {
     pub alloc: Global,

@@ -2,7 +2,8 @@
 ghost use Rattle.resin_eval_writes.specs.Under.eval_nested.Nested.{Nests, means};
 ghost use Rattle.resin_eval_writes.specs.Under.eval_nested.Running.{Performs};
 ghost use Rattle.resin_eval_writes.specs.Under.lstr.Texts.{bytes_of};
-ghost use Rattle.resin_eval_writes.specs.Under.meaning_forms.Queries.{answered, executed, joined, more_answered, refused, result_value, run_read, sql_query, totalled};
+ghost use Rattle.resin_eval_writes.specs.Under.meaning_forms.Queries.{answered, executed, joined, more_answered, refused};
+ghost use Rattle.resin_eval_writes.specs.Under.meaning_forms.Queries.{result_value, run_read, sql_query, totalled};
 ghost use Rattle.resin_eval_writes.specs.Under.meaning_forms.Runs.{Runs, on_ok};
 ghost use Rattle.resin_eval_writes.specs.Under.value.Seen.{tree_of};
 ghost use Rattle.resin_eval_writes.specs.Under.meaning_tables.Under.joint.Readings.{read_more_as};
@@ -251,7 +252,8 @@ impl<
     // What a text is read as is run; a text that is no statement is refused.
     fn run_text(&self, run: &mut Run<F, T>, text: &LText) -> Result<Value, Stop>
         requires { Nests F.Files T.Tables N.pre N.post self.now.by.now }
-        ensures { Performs F.Files T.Tables (run_read (means self.now.by.now) text.now (read_more_as (bytes_of text.now))) run.old (on_ok tree_of result) run.new }
+        ensures { Performs F.Files T.Tables (run_read (means self.now.by.now) text.now (read_more_as (bytes_of text.now)))
+            run.old (on_ok tree_of result) run.new }
     {
         match read_more(self.by.alloc, text) {
             Ok(statement) => self.run_statement(run, text, &statement),
@@ -263,15 +265,15 @@ impl<
         }
     }
 
-    /// `sql_query`: the text passes the filters of the channel, and what they give is carried out. A SELECT, a join or a total answers a list of arrays from
-    /// the names of columns to their cells; INSERT, UPDATE and DELETE how many rows were made, changed or taken out; CREATE 0.
+    /// `sql_query`: the text passes the filters of the channel, and what they give is carried out. A SELECT, a join or a total answers a list
+    /// of arrays from the names of columns to their cells; INSERT, UPDATE and DELETE how many rows were made, changed or taken out; CREATE 0.
     ///
     /// # Errors
     ///
-    /// How a filter and a merge stop; SqlException, whose message is `syntax at N` with the offset where the text is no statement, or says why the statement is
-    /// refused; `NotStorable` for a policy that can't be kept; `Keeper` where a keeper call failed; `FuelSpent` where the rows, or the policies of cells, take
-    /// more ticks than are left, or no number is left for a keeper call; `TextTooLong` and `BadShadow` of a cell that is answered; `IntegerOverflow` and
-    /// `TextTooLong` of a total.
+    /// How a filter and a merge stop; SqlException, whose message is `syntax at N` with the offset where the text is no statement, or says
+    /// why the statement is refused; `NotStorable` for a policy that can't be kept; `Keeper` where a keeper call failed; `FuelSpent` where
+    /// the rows, or the policies of cells, take more ticks than are left, or no number is left for a keeper call; `TextTooLong` and
+    /// `BadShadow` of a cell that is answered; `IntegerOverflow` and `TextTooLong` of a total.
     pub fn sql_query(&self, run: &mut Run<F, T>, text: &LText) -> Result<Value, Stop>
         requires { Nests F.Files T.Tables N.pre N.post self.now.by.now }
         ensures { Performs F.Files T.Tables (sql_query (means self.now.by.now) text.now) run.old (on_ok tree_of result) run.new }

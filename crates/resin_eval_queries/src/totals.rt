@@ -122,7 +122,8 @@ impl<
     ) -> Result<Value, Stop>
         requires nests { Nests F.Files T.Tables N.pre N.post self.now.by.now }
         requires named { name.now ≡ item_name item.now }
-        ensures { Performs F.Files T.Tables (item_of (means self.now.by.now) item.now chosen cells.now sets.now) run.old (on_ok tree_of result) run.new }
+        ensures { Performs F.Files T.Tables (item_of (means self.now.by.now) item.now chosen cells.now sets.now)
+            run.old (on_ok tree_of result) run.new }
     {
         let value = value_of(self.by.alloc, &run.machine, item, chosen, cells)?;
         let set = Merger { by: self.by }.fold_sets(run, sets)?;
@@ -141,7 +142,8 @@ impl<
     ) -> Result<Value, Stop>
         requires nests { Nests F.Files T.Tables N.pre N.post self.now.by.now }
         requires named { name.now ≡ item_name item.now }
-        ensures { Performs F.Files T.Tables (item_by (means self.now.by.now) item.now chosen cells.now marks.now) run.old (on_ok tree_of result) run.new }
+        ensures { Performs F.Files T.Tables (item_by (means self.now.by.now) item.now chosen cells.now marks.now)
+            run.old (on_ok tree_of result) run.new }
     {
         let sets = thaw_sets(self.by.alloc, &mut run.machine, marks)?;
         self.of_sets(run, item, name, chosen, cells, sets.as_slice())
@@ -203,8 +205,8 @@ impl<
     ///
     /// # Errors
     ///
-    /// `TextTooLong` and `BadShadow` of a cell; `FuelSpent` where their policies take more ticks than are left; `IntegerOverflow` of a sum; `TextTooLong` of
-    /// cells that are joined; how a merge and a filter stop.
+    /// `TextTooLong` and `BadShadow` of a cell; `FuelSpent` where their policies take more ticks than are left; `IntegerOverflow` of a sum;
+    /// `TextTooLong` of cells that are joined; how a merge and a filter stop.
     pub(crate) fn total(
         &self,
         run: &mut Run<F, T>,

@@ -128,7 +128,8 @@ impl<
     // `while`
     fn while_loop(&self, run: &mut Run<F, T>, e: &Expr, body: &Stmt) -> Result<Course, Stop>
         requires { Nests F.Files T.Tables N.pre N.post self.now.by.now }
-        ensures { Performs F.Files T.Tables (form.while_turns (suc run.old.machine.ticks) (means self.now.by.now) e.now body.now) run.old result run.new }
+        ensures { Performs F.Files T.Tables (form.while_turns (suc run.old.machine.ticks) (means self.now.by.now) e.now body.now)
+            run.old result run.new }
     {
         loop {
             let v = self.by.expr(run, e)?;
@@ -175,7 +176,8 @@ impl<
         body: &Stmt,
     ) -> Result<Course, Stop>
         requires { Nests F.Files T.Tables N.pre N.post self.now.by.now }
-        ensures { Performs F.Files T.Tables (form.for_turns (suc run.old.machine.ticks) (means self.now.by.now) tests.now after.now body.now) run.old result run.new }
+        ensures { Performs F.Files T.Tables (form.for_turns (suc run.old.machine.ticks) (means self.now.by.now) tests.now after.now body.now)
+            run.old result run.new }
     {
         loop {
             let more = self.last_holds(run, tests)?;
@@ -247,7 +249,8 @@ impl<
     // The number of the first case that is equal to the subject, else that of `default:`, else the number of cases.
     fn chosen(&self, run: &mut Run<F, T>, v: &Value, cs: &[Case]) -> Result<usize, Stop>
         requires { Nests F.Files T.Tables N.pre N.post self.now.by.now }
-        ensures { Performs F.Files T.Tables (form.chosen (means self.now.by.now) v.now (from_default cs.now) cs.now) run.old (on_ok (λ i. drop i cs.now) result) run.new }
+        ensures { Performs F.Files T.Tables (form.chosen (means self.now.by.now) v.now (from_default cs.now) cs.now)
+            run.old (on_ok (λ i. drop i cs.now) result) run.new }
     {
         let mut i = 0;
         while i < cs.len() {
@@ -337,9 +340,10 @@ impl<
         closing(course, end)
     }
 
-    /// What a statement does, its line apart, and how it goes on. It stops as the expressions and statements in it do, and `echo` as a write to the page does.
-    /// BadOperand comes where `foreach` goes over no array, `throw` throws no object under Throwable, or nothing can be unset there, as `resin_target::erase`
-    /// says; an exception that no `catch` fits goes on; `exit` stops, and is ChannelInCheck where a check, a merge or a filter runs.
+    /// What a statement does, its line apart, and how it goes on. It stops as the expressions and statements in it do, and `echo` as a
+    /// write to the page does. BadOperand comes where `foreach` goes over no array, `throw` throws no object under Throwable, or nothing
+    /// can be unset there, as `resin_target::erase` says; an exception that no `catch` fits goes on; `exit` stops, and is ChannelInCheck
+    /// where a check, a merge or a filter runs.
     pub fn statement(&self, run: &mut Run<F, T>, k: &StmtKind) -> Result<Course, Stop>
         requires { Nests F.Files T.Tables N.pre N.post self.now.by.now }
         ensures { Performs F.Files T.Tables (form.stmt_form (means self.now.by.now) k.now) run.old result run.new }

@@ -1,5 +1,6 @@
 //! Header lines.
-ghost use Rattle.resin_eval_nested.specs.Under.stage.Lines.{header_line, is_colon, is_settable, is_token, is_token_byte, is_value_byte, skip_spaces, trimmed};
+ghost use Rattle.resin_eval_nested.specs.Under.stage.Lines.{header_line, is_colon, is_settable, is_token};
+ghost use Rattle.resin_eval_nested.specs.Under.stage.Lines.{is_token_byte, is_value_byte, skip_spaces, trimmed};
 ghost use Rattle.resin_eval_nested.specs.Under.scope.Pages.{is_same_name};
 ghost use Rattle.std.specs.List.{list_all, list_any, position_or_len};
 ghost use Rattle.std.specs.Prelude.{codes, IfOk, ◌==◌, ◌≡◌, reverse, if◌then◌else◌, Some, None, length, nat_lt};

@@ -45,8 +45,8 @@ pub fn chain_for(alloc: Global, m: &Machine, what: &Outgoing) -> Result<Vec<u32>
     }
 }
 
-/// The text that the policies are asked about: a header line is tested, and ValueError is thrown where it sets no header; a mail is joined, and TextTooLong comes where
-/// no text is that long.
+/// The text that the policies are asked about: a header line is tested, and ValueError is thrown where it sets no header; a mail is joined,
+/// and TextTooLong comes where no text is that long.
 pub fn prepare(alloc: Global, m: &mut Machine, what: &Outgoing, text: LText) -> Result<LText, Stop>
     ensures { Runs (prepared what.now text) m.old result m.new }
 {
@@ -138,7 +138,8 @@ fn carrying_run(text: &LText, policy: u32) -> (usize, usize)
     }
 }
 
-/// What the end of a policy's check means for the write under way: it passed, or the denial is noted and the exception goes on. The text carries the policy.
+/// What the end of a policy's check means for the write under way: it passed, or the denial is noted and the exception goes on. The text
+/// carries the policy.
 pub fn judge(
     m: &mut Machine,
     write: u64,
@@ -151,7 +152,8 @@ pub fn judge(
     requires leaving { IsTrue (is_leaving channel) }
     requires carried { IsTrue (is_among policy (policies_in_order text.now)) }
     ensures does { Runs (judged write channel text.now policy end) m.old result m.new }
-    ensures passed { OnOk result ((ps : List ℕ) → IsUnderWay write ps m.old → is_among policy ps ≡ false → IsUnderWay write (ps ++ policy ∷ []) m.new) }
+    ensures passed { OnOk result ((ps : List ℕ) → IsUnderWay write ps m.old → is_among policy ps ≡ false
+        → IsUnderWay write (ps ++ policy ∷ []) m.new) }
 {
     match end {
         Ok(()) => m.pass(write, policy),

@@ -74,7 +74,8 @@ impl<
     ) -> Result<LText, Stop>
         requires nests { Nests F.Files T.Tables N.pre N.post self.now.by.now }
         requires outside { is_leaving channel ≡ false }
-        ensures { Performs F.Files T.Tables (ask_filters (form.filter_by (means self.now.by.now) method.now context.now) 0 channel chain.now text) run.old result run.new }
+        ensures { Performs F.Files T.Tables (ask_filters (form.filter_by (means self.now.by.now) method.now context.now) 0 channel chain.now text)
+            run.old result run.new }
     {
         let mut data = text;
         for f in chain {
@@ -98,7 +99,8 @@ impl<
     ) -> Result<LText, Stop>
         requires nests { Nests F.Files T.Tables N.pre N.post self.now.by.now }
         requires outside { is_leaving channel ≡ false }
-        ensures { Performs F.Files T.Tables (pass_filters (form.filter_by (means self.now.by.now) method.now context.now) channel text) run.old result run.new }
+        ensures { Performs F.Files T.Tables (pass_filters (form.filter_by (means self.now.by.now) method.now context.now) channel text)
+            run.old result run.new }
     {
         let chain = run.machine.chains().chain(channel).to_vec(self.by.alloc)?;
         self.ask_filters(run, method, channel, chain.as_slice(), text, context)

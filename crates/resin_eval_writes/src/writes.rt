@@ -62,7 +62,8 @@ impl<
         requires begun { IsUnderWay write [] run.old.machine }
         requires leaving { IsTrue (is_leaving channel) }
         requires order { policies.now ≡ policies_in_order text.now }
-        ensures does { Performs F.Files T.Tables (ask_policies (form.check (means self.now.by.now) context.now) write channel text.now policies.now) run.old result run.new }
+        ensures does { Performs F.Files T.Tables (ask_policies (form.check (means self.now.by.now) context.now) write channel text.now policies.now)
+            run.old result run.new }
         ensures passed { OnOk result (IsUnderWay write policies.now run.new.machine) }
     {
         for p in policies {
@@ -87,7 +88,9 @@ impl<
         requires nests { Nests F.Files T.Tables N.pre N.post self.now.by.now }
         requires begun { IsUnderWay write [] run.old.machine }
         requires leaving { IsTrue (is_leaving channel) }
-        ensures does { Performs F.Files T.Tables (ask_policies (form.check (means self.now.by.now) context.now) write channel text.now (policies_in_order text.now)) run.old result run.new }
+        ensures does { Performs F.Files T.Tables
+            (ask_policies (form.check (means self.now.by.now) context.now) write channel text.now (policies_in_order text.now))
+            run.old result run.new }
         ensures passed { OnOk result (IsUnderWay write (policies_in_order text.now) run.new.machine) }
     {
         let policies = text.policies_in_order(self.by.alloc)?;
@@ -127,7 +130,8 @@ impl<
         requires nests { Nests F.Files T.Tables N.pre N.post self.now.by.now }
         requires begun { IsUnderWay write [] run.old.machine }
         requires leaving { IsTrue (is_leaving channel) }
-        ensures does { Performs F.Files T.Tables (ask_filters (form.filter_write (means self.now.by.now) context.now) write channel chain.now text) run.old result run.new }
+        ensures does { Performs F.Files T.Tables (ask_filters (form.filter_write (means self.now.by.now) context.now) write channel chain.now text)
+            run.old result run.new }
         ensures begun { OnOk result (IsUnderWay write [] run.new.machine) }
         ensures unasked { IfOk result (λ answer. chain.now ≡ [] → answer ≡ text) }
     {

@@ -1,5 +1,6 @@
 -- What stands behind a `%` in a format (PHP manual, "sprintf", in this project's profile: no positions, precisions, signs or other fillings).
-use Rattle.std.specs.Prelude.{ℕ, ◌+◌, ◌==◌, Bool, true, false, nat_le, if◌then◌else◌, List, [], ◌∷◌, length, take, drop, Option, Some, None, option_and_then}
+use Rattle.std.specs.Prelude.{ℕ, ◌+◌, ◌==◌, Bool, true, false, nat_le, if◌then◌else◌}
+use Rattle.std.specs.Prelude.{List, [], ◌∷◌, length, take, drop, Option, Some, None, option_and_then}
 use Rattle.std.specs.Option.{option_map}
 use Rattle.resin_bytes.specs.Numbers.{digits_len, decimal_value}
 use Rattle.resin_format.specs.declared.form.Kind.{Kind}

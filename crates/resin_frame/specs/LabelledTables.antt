@@ -101,8 +101,8 @@ damaged (cell.Int n) (cell.Text shadow) = Bad (0 ∷ []) shadow
 damaged (cell.Text bytes) shadow = Bad bytes []
 damaged value shadow = Bad [] []
 
--- The entry of a cell in a column of this kind: a text is one of its bytes, an integer one of the byte that stands for it, each with its sets; NULL is
--- none. A damaged cell is a damaged one; where it is of another kind than its column's, nothing of it is told.
+-- The entry of a cell in a column of this kind: a text is one of its bytes, an integer one of the byte that stands for it, each with its
+-- sets; NULL is none. A damaged cell is a damaged one; where it is of another kind than its column's, nothing of it is told.
 abbrev pub entry_in : Kind → LabelledCell → Option LabelledEntry
 entry_in kind (Text d version) = Some (Good d version)
 entry_in kind (Integer n set version) = Some (Good ((0, set) ∷ []) version)

@@ -1,5 +1,6 @@
 -- What is kept of a policy, which policies can be kept, and which texts are policy texts.
-use Rattle.std.specs.Prelude.{◌≡◌, ℕ, ℤ, zero, suc, ◌^◌, ◌<◌, ◌≤◌, Bool, true, false, ◌&&◌, List, [], ◌∷◌, length, map, codes, Option, Some, None, if◌then◌else◌}
+use Rattle.std.specs.Prelude.{◌≡◌, ℕ, ℤ, zero, suc, ◌^◌, ◌<◌, ◌≤◌, Bool, true, false, ◌&&◌}
+use Rattle.std.specs.Prelude.{List, [], ◌∷◌, length, map, codes, Option, Some, None, if◌then◌else◌}
 use lib.Signed.{mag}
 use Rattle.std.specs.List.{list_all, IsDistinct}
 use Rattle.std.specs.Str.{bytes_eq}
@@ -90,7 +91,8 @@ pub record IsPolicyText (bytes : List ℕ) : Type 0 where
   pub is_policy : IsPolicy class fields
   pub text_is : bytes ≡ policy_text class fields
 
--- ---- what a text keeps of a value: no labels, and each array built anew from its entries, so that its next key is one more than its largest integer key
+-- ---- what a text keeps of a value: no labels, and each array built anew from its entries, so that its next key is one more than its
+-- largest integer key
 
 -- an array as a value
 abbrev pub tree_of_array : Array → Tree

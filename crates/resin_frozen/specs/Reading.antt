@@ -1,5 +1,6 @@
 -- Reading a policy text from the front of bytes.
-use Rattle.std.specs.Prelude.{ℕ, zero, suc, ◌-◌, ◌^◌, min, Bool, true, false, ◌&&◌, nat_lt, nat_le, nat_eq, ℤ, pos, neg_ℤ, List, length, take, drop, codes, decimal, Option, Some, None, is_none, if◌then◌else◌}
+use Rattle.std.specs.Prelude.{ℕ, zero, suc, ◌-◌, ◌^◌, min, Bool, true, false, ◌&&◌, nat_lt, nat_le, nat_eq, ℤ, pos, neg_ℤ}
+use Rattle.std.specs.Prelude.{List, length, take, drop, codes, decimal, Option, Some, None, is_none, if◌then◌else◌}
 use Rattle.std.specs.Option.{option_map}
 use Rattle.std.specs.Fmt.{signed_decimal}
 use Rattle.std.specs.List.{position_or_len, before_first, after_first, starts_with}
@@ -66,7 +67,9 @@ natural c xs = and_then (cut c xs) (λ l. and_then (number l.0) (λ n. Some (n, 
 
 -- `n:"bytes"`
 unfoldable pub quoted : Read (List ℕ)
-quoted xs = and_then (natural 58 xs) (λ n. and_then (literal (codes "\"") n.1) (λ o. and_then (taken n.0 o.1) (λ w. and_then (literal (codes "\"") w.1) (λ c. Some (w.0, c.1)))))
+quoted xs =
+    and_then (natural 58 xs) (λ n. and_then (literal (codes "\"") n.1) (λ o. and_then (taken n.0 o.1) (λ w.
+    and_then (literal (codes "\"") w.1) (λ c. Some (w.0, c.1)))))
 
 -- what stands behind `i:`
 unfoldable pub integer_behind : Read ℤ
@@ -92,7 +95,8 @@ key keys xs = and_then (taken 2 xs) (λ t. and_then (key_behind t.0 t.1) (λ k. 
 
 unfoldable pub boolean_behind : Read Tree
 boolean_behind xs =
-    and_then (taken 2 xs) (λ t. if is_text t.0 (codes "0;") then Some (boolean false, t.1) else (if is_text t.0 (codes "1;") then Some (boolean true, t.1) else None))
+    and_then (taken 2 xs) (λ t.
+    if is_text t.0 (codes "0;") then Some (boolean false, t.1) else (if is_text t.0 (codes "1;") then Some (boolean true, t.1) else None))
 
 -- a text without labels, where it isn't too long
 abbrev pub plain_text : List ℕ → Option LabelledText
@@ -114,7 +118,8 @@ pairs value keys (suc n) a xs = and_then (pair value keys a xs) (λ p. pairs val
 -- `n:{pairs}`
 unfoldable pub braced : Read Tree → Keys → Read Array
 braced value keys xs =
-    and_then (natural 58 xs) (λ n. and_then (literal (codes "{") n.1) (λ o. and_then (pairs value keys n.0 empty o.1) (λ a. and_then (literal (codes "}") a.1) (λ c. Some (a.0, c.1)))))
+    and_then (natural 58 xs) (λ n. and_then (literal (codes "{") n.1) (λ o. and_then (pairs value keys n.0 empty o.1) (λ a.
+    and_then (literal (codes "}") a.1) (λ c. Some (a.0, c.1)))))
 
 unfoldable pub array_behind : Read Tree → Read Tree
 array_behind value xs = and_then (braced value Lawful xs) (λ a. Some (tree_of_array a.0, a.1))

@@ -8,7 +8,8 @@ ghost use Rattle.resin_value.specs.Under.lstr.Texts.{bytes_of};
 ghost use Rattle.resin_value.specs.Arrays.{row_of};
 ghost use Rattle.resin_value.specs.Seen.{tree_of};
 ghost use Rattle.resin_frozen.specs.Texts as texts;
-ghost use Rattle.resin_frozen.specs.Policies.{ROOM, IsPolicyText, IsCount, IsInteger, IsWholeKey, is_name, is_field_key, is_storable, are_storable, IsWhole, AreWhole, pairs_of, lost, named, text_of, frozen, HasFieldNames, tree_of_array};
+ghost use Rattle.resin_frozen.specs.Policies.{ROOM, IsPolicyText, IsCount, IsInteger, IsWholeKey, is_name, is_field_key, is_storable, are_storable};
+ghost use Rattle.resin_frozen.specs.Policies.{IsWhole, AreWhole, pairs_of, lost, named, text_of, frozen, HasFieldNames, tree_of_array};
 ghost use Rattle.resin_frozen.specs.Reads.{Writes, Freezes};
 
 use crate::fault::FreezeFault;
@@ -94,7 +95,8 @@ fn push_key(text: &mut Bytes, key: &Key) -> Result<(), AllocError>
 // Puts a value last, in which at most so many arrays may stand one in another.
 #[cycle(freezing)]
 fn push_value(text: &mut Bytes, value: &Value, room: usize) -> Result<(), FreezeFault>
-    ensures { Writes text.old (texts.value_text (tree_of value.now)) (is_storable room (tree_of value.now)) (IsWhole room (tree_of value.now)) result text.new }
+    ensures { Writes text.old (texts.value_text (tree_of value.now))
+        (is_storable room (tree_of value.now)) (IsWhole room (tree_of value.now)) result text.new }
 {
     match value {
         Value::Null => text.push_slice(b"N;")?,
@@ -110,7 +112,8 @@ fn push_value(text: &mut Bytes, value: &Value, room: usize) -> Result<(), Freeze
 // Puts an array last, where at most so many may stand one in another, this one counted.
 #[cycle(freezing)]
 fn push_array(text: &mut Bytes, array: &Arr, room: usize) -> Result<(), FreezeFault>
-    ensures { Writes text.old (texts.value_text (tree_of_array array.now)) (is_storable room (tree_of_array array.now)) (IsWhole room (tree_of_array array.now)) result text.new }
+    ensures { Writes text.old (texts.value_text (tree_of_array array.now))
+        (is_storable room (tree_of_array array.now)) (IsWhole room (tree_of_array array.now)) result text.new }
 {
     if room == 0 {
         return Err(FreezeFault::NotStorable);
@@ -127,7 +130,8 @@ fn push_array(text: &mut Bytes, array: &Arr, room: usize) -> Result<(), FreezeFa
 // Puts the pairs of an array last.
 #[cycle(freezing)]
 fn push_pairs(text: &mut Bytes, array: &Arr, room: usize) -> Result<(), FreezeFault>
-    ensures { Writes text.old (texts.pairs_text (row_of array.now.entries)) (are_storable room (row_of array.now.entries)) (AreWhole room (row_of array.now.entries)) result text.new }
+    ensures { Writes text.old (texts.pairs_text (row_of array.now.entries))
+        (are_storable room (row_of array.now.entries)) (AreWhole room (row_of array.now.entries)) result text.new }
 {
     for i in 0..array.len() {
         let (key, value) = array.entry(i);
@@ -139,7 +143,8 @@ fn push_pairs(text: &mut Bytes, array: &Arr, room: usize) -> Result<(), FreezeFa
 
 // Puts fields as pairs last.
 fn push_fields(text: &mut Bytes, fields: &[(Bytes, Value)]) -> Result<(), FreezeFault>
-    ensures { Writes text.old (texts.pairs_text (row_of (pairs_of fields.now))) (are_storable ROOM (row_of (pairs_of fields.now))) (AreWhole ROOM (row_of (pairs_of fields.now))) result text.new }
+    ensures { Writes text.old (texts.pairs_text (row_of (pairs_of fields.now)))
+        (are_storable ROOM (row_of (pairs_of fields.now))) (AreWhole ROOM (row_of (pairs_of fields.now))) result text.new }
 {
     for (name, value) in fields {
         push_bytes(text, name.as_slice())?;
@@ -250,12 +255,12 @@ fn freeze_named(alloc: Global, class: &LText, pairs: &Arr) -> Result<Frozen, Fre
     }
 }
 
-/// The policy text of an object of the class `class` with these fields, without the labels inside them. The class and the names of the fields must be names,
-/// the class at most 16,777,216 bytes long, and no two fields may have one name. For `LostPolicy` it is the text of the class that the field `of` names, with
-/// the pairs of the array `fields`: what the policy was before its class was missing.
+/// The policy text of an object of the class `class` with these fields, without the labels inside them. The class and the names of the
+/// fields must be names, the class at most 16,777,216 bytes long, and no two fields may have one name. For `LostPolicy` it is the text of
+/// the class that the field `of` names, with the pairs of the array `fields`: what the policy was before its class was missing.
 ///
-/// `NotStorable` comes exactly where a field holds an object, or more than 8 arrays one in another; for `LostPolicy` exactly where `of` isn't a text that is a
-/// name, or `fields` isn't an array whose keys are names and whose values can be stored.
+/// `NotStorable` comes exactly where a field holds an object, or more than 8 arrays one in another; for `LostPolicy` exactly where `of`
+/// isn't a text that is a name, or `fields` isn't an array whose keys are names and whose values can be stored.
 pub fn freeze(alloc: Global, class: &[u8], fields: &Fields) -> Result<Frozen, FreezeFault>
     requires name { is_name class.now ≡ true }
     requires short { length class.now ≤ LONGEST }

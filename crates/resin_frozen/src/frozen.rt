@@ -102,7 +102,8 @@ impl Hash for Frozen {
     }
 }
 
-/// The class and the fields of the policy whose text this is. No value carries a label, and an array's next key is one more than its largest integer key.
+/// The class and the fields of the policy whose text this is. No value carries a label, and an array's next key is one more than its
+/// largest integer key.
 pub fn thaw(alloc: Global, f: &Frozen) -> Result<(Bytes, Fields), AllocError>
     ensures { IfOk result (λ r. Says f.now r.0 r.1) }
 {
@@ -149,8 +150,8 @@ fn name_of(alloc: Global, key: &Key) -> Result<Bytes, AllocError>
     }
 }
 
-/// The class of the policy whose text this is, and its fields as an array by their names. No value carries a label, and an array's next key is one more than
-/// its largest integer key.
+/// The class of the policy whose text this is, and its fields as an array by their names. No value carries a label, and an array's next key
+/// is one more than its largest integer key.
 pub fn said(alloc: Global, f: &Frozen) -> Result<(Bytes, Arr), AllocError>
     ensures { IfOk result (λ r. said f.now ≡ Some (r.0, r.1)) }
 {

@@ -2,7 +2,8 @@
 -- alone, and a repetition goes on as long as it can: so the right side of an assignment reaches as far as the grammar
 -- lets it. What nests: each bracket, the `{` of a text, and the operand to the right of each operator. `stands` marks
 -- the operators and postfixes that open nothing, to the right of a tree of this height.
-use Rattle.std.specs.Prelude.{ℕ, zero, suc, ◌+◌, ◌-◌, Bool, true, false, not, ◌&&◌, ◌||◌, ◌==◌, nat_le, List, [], ◌∷◌, ◌++◌, Option, Some, None, is_some, is_none}
+use Rattle.std.specs.Prelude.{ℕ, zero, suc, ◌+◌, ◌-◌, Bool, true, false, not, ◌&&◌, ◌||◌, ◌==◌, nat_le}
+use Rattle.std.specs.Prelude.{List, [], ◌∷◌, ◌++◌, Option, Some, None, is_some, is_none}
 use Rattle.resin_form.specs.Form.{Begin, Own, Named, Form, give, next, maybe, many, After, plain, followed, taken, opens, stands, call}
 pub use Rattle.resin_form.specs.InARow.{◌>>=◌, ◌>>◌, either, one_of, or_else}
 use Rattle.resin_lex.specs.declared.token.Token.{Token}
@@ -28,7 +29,8 @@ use Rattle.resin_grammar.specs.Places.{Place, place, at_index, at_next, at_prope
 use Rattle.resin_grammar.specs.declared.place.Operand.{Operand}
 use Rattle.resin_grammar.specs.declared.place.Operand.TheVariants.{Target, Tree, Closed}
 use Rattle.resin_grammar.specs.Trees as tree
-use Rattle.resin_grammar.specs.Names.{Name, Level, Bracketed, Index, IndexOrNext, Items, Arguments, Asked, Changed, Branches, Otherwise, Interpolated, Value}
+use Rattle.resin_grammar.specs.Names.{Name, Level, Bracketed, Index, IndexOrNext, Items, Arguments}
+use Rattle.resin_grammar.specs.Names.{Asked, Changed, Branches, Otherwise, Interpolated, Value}
 
 abbrev pub Rule : Type 0 → Type 1
 Rule A = Form Token Name Value A

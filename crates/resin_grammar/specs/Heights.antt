@@ -10,7 +10,8 @@ use Rattle.resin_tree.specs.declared.expression.Operation.{Operation-F}
 use Rattle.resin_tree.specs.declared.expression.PathStep.{PathStep, PathStep-F, fold-PathStep}
 use Rattle.resin_tree.specs.declared.expression.Test.{Test-F}
 use Rattle.resin_tree.specs.declared.expression.ArrayItem.{ArrayItem, fold-ArrayItem}
-use Rattle.resin_grammar.specs.Layers.{AccessLayer, AssignmentLayer, CallLayer, ExprLayer, OperationLayer, StepLayer, TestLayer, ItemLayer, TargetLayer}
+use Rattle.resin_grammar.specs.Layers.{AccessLayer, AssignmentLayer, CallLayer, ExprLayer}
+use Rattle.resin_grammar.specs.Layers.{OperationLayer, StepLayer, TestLayer, ItemLayer, TargetLayer}
 
 -- the greatest of a list, 0 of none
 abbrev pub highest : List ℕ → ℕ

@@ -33,7 +33,8 @@ impl Model for TallPlace {
 
     ghost view = { λ t. record { variable = t.variable; path = t.path } };
 
-    ghost invariant = { λ t. (t.height ≡ min (place_height (record { variable = t.variable; path = t.path })) 1000) × (t.next ≡ has_next (record { variable = t.variable; path = t.path })) };
+    ghost invariant = { λ t. (t.height ≡ min (place_height (record { variable = t.variable; path = t.path })) 1000)
+        × (t.next ≡ has_next (record { variable = t.variable; path = t.path })) };
 }
 
 impl TallPlace {

@@ -234,4 +234,5 @@ Refilled p q = OtherData q.data_first × OtherItems p.items q.items
 -- a page has items, and with other data and safe values it is a page with the same ones
 abbrev pub KeepsItems : (List ℕ → Places → Type 0) → Type 0
 KeepsItems IsPage = (bytes : List ℕ) (places : Places) → IsPage bytes places
-    → (p : Page) × IsLawful p × (written p ≡ bytes) × (safe_places p ≡ places) × ((q : Page) → Refilled p q → IsLawful q × IsPage (written q) (safe_places q))
+    → (p : Page) × IsLawful p × (written p ≡ bytes) × (safe_places p ≡ places)
+    × ((q : Page) → Refilled p q → IsLawful q × IsPage (written q) (safe_places q))

@@ -2,7 +2,8 @@
 --
 -- A page is items: data, comments `<!--` up to the first `-->`, doctypes `<!doctype` up to the first `>`, raw elements and tags.
 -- A form's value has the places that are safe: ranges of offsets of data, and of values of harmless attributes.
-use Rattle.std.specs.Prelude.{ℕ, ◌+◌, ◌-◌, Bool, true, false, not, ◌&&◌, ◌||◌, ◌==◌, nat_eq, nat_lt, nat_le, List, [], ◌∷◌, ◌++◌, length, get_or, codes, if◌then◌else◌}
+use Rattle.std.specs.Prelude.{ℕ, ◌+◌, ◌-◌, Bool, true, false, not, ◌&&◌, ◌||◌, ◌==◌, nat_eq, nat_lt, nat_le}
+use Rattle.std.specs.Prelude.{List, [], ◌∷◌, ◌++◌, length, get_or, codes, if◌then◌else◌}
 use Rattle.std.specs.List.{starts_with}
 use Rattle.resin_form.specs.Form.{give, next, maybe, many, taken}
 use Rattle.resin_scan.specs.Bytes.{is_digit, lower}
@@ -43,7 +44,8 @@ is_raw w = spells (codes "script") w || spells (codes "style") w
 -- the names of attributes whose values are code or addresses
 abbrev pub is_harmful : List ℕ → Bool
 is_harmful w =
-    starts_with nat_eq w (codes "on") || spells (codes "style") w || spells (codes "href") w || spells (codes "src") w || spells (codes "action") w || spells (codes "formaction") w
+    starts_with nat_eq w (codes "on") || spells (codes "style") w || spells (codes "href") w || spells (codes "src") w
+    || spells (codes "action") w || spells (codes "formaction") w
 
 -- ---- stretches
 

@@ -41,7 +41,9 @@ of_text (l.Text span) = (span.from, span.to) ∷ []
 
 -- what other texts take the place of in a statement are its text literals, and no more
 abbrev pub RequotesTexts : (List ℕ → Stmt → Type 0) → Type 0
-RequotesTexts IsStatement = (bytes others : List ℕ) (q : Stmt) → IsStatement bytes q → (r : Requoted bytes others) → stretches 0 r ≡ flat_map of_text (literals q)
+RequotesTexts IsStatement =
+    (bytes others : List ℕ) (q : Stmt) → IsStatement bytes q → (r : Requoted bytes others)
+    → stretches 0 r ≡ flat_map of_text (literals q)
 
 -- ---- a statement without what its text literals hold, and without where its literals stand
 

@@ -1,5 +1,6 @@
 -- What the fields of a head say of its request (RFC 9110 and 9112, with this project's limits).
-use Rattle.std.specs.Prelude.{ℕ, Bool, ◌&&◌, not, ◌==◌, nat_lt, nat_le, List, [], ◌∷◌, length, map, if◌then◌else◌, Option, Some, None, Result, Ok, Err, codes, filter}
+use Rattle.std.specs.Prelude.{ℕ, Bool, ◌&&◌, not, ◌==◌, nat_lt, nat_le}
+use Rattle.std.specs.Prelude.{List, [], ◌∷◌, length, map, if◌then◌else◌, Option, Some, None, Result, Ok, Err, codes, filter}
 use Rattle.std.specs.List.{list_all, list_any, slice_index}
 use Rattle.std.specs.Char.{is_ascii_digit}
 use Rattle.std.specs.Str.Parse.{digits_value}

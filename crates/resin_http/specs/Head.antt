@@ -1,5 +1,6 @@
 -- The head of a request, read from its bytes. The grammar of heads is that of `httparse` (RFC 9112 with bare LF and empty lines before).
-use Rattle.std.specs.Prelude.{◌≡◌, ℕ, ◌-◌, ◌≤◌, Bool, ◌&&◌, not, ◌==◌, nat_lt, nat_le, nat_eq, List, [], ◌∷◌, length, drop, map, if◌then◌else◌, Option, Some, None, option_and_then}
+use Rattle.std.specs.Prelude.{◌≡◌, ℕ, ◌-◌, ◌≤◌, Bool, ◌&&◌, not, ◌==◌, nat_lt, nat_le, nat_eq}
+use Rattle.std.specs.Prelude.{List, [], ◌∷◌, length, drop, map, if◌then◌else◌, Option, Some, None, option_and_then}
 use Rattle.std.specs.List.{list_all, list_any, prefix_len, take_while, before_first, after_first, slice_split, slice_index_or, slice_index}
 use Rattle.std.specs.Str.{is_utf8}
 use Rattle.std.specs.Cmp.Lexicographic.{pointwise}

@@ -34,7 +34,8 @@ length_line n = codes "Content-Length: " ++ decimal n ++ line_end
 
 -- what stands before the body: the status, the type where no header tells it, the headers in order, the body's length and an empty line
 unfoldable pub response_head : ℕ → List Header → List ℕ → ℕ → List ℕ
-response_head status headers kind length = status_line status ++ type_line headers kind ++ flat_map header_line headers ++ length_line length ++ line_end
+response_head status headers kind length =
+    status_line status ++ type_line headers kind ++ flat_map header_line headers ++ length_line length ++ line_end
 
 -- the body, unless only the head is wanted
 abbrev pub shown_body : Bool → List ℕ → List ℕ

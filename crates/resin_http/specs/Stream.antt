@@ -1,5 +1,6 @@
 -- The requests of a stream: what its front asks, and all that a whole stream asks (this project, over RFC 9112).
-use Rattle.std.specs.Prelude.{◌≡◌, ℕ, zero, suc, ◌+◌, ◌<◌, ◌≤◌, true, nat_lt, nat_le, nat_eq, List, [], ◌∷◌, ◌++◌, length, take, drop, map, if◌then◌else◌, Option, Some, None, option_map, Result, Ok, Err, codes, sum_by}
+use Rattle.std.specs.Prelude.{◌≡◌, ℕ, zero, suc, ◌+◌, ◌<◌, ◌≤◌, true, nat_lt, nat_le, nat_eq, List, [], ◌∷◌, ◌++◌, length}
+use Rattle.std.specs.Prelude.{take, drop, map, if◌then◌else◌, Option, Some, None, option_map, Result, Ok, Err, codes, sum_by}
 use Rattle.std.specs.List.{starts_with}
 use Rattle.httparse.specs.Grammar.{RequestHead}
 use Rattle.resin_inputs.specs.Under.bytes.declared.header.Header.{Header}

@@ -1,7 +1,8 @@
 //! What the fields of a head say of its request.
 ghost use Rattle.std.specs.Prelude.{◌≡◌, ℕ, ◌≤◌, length, map, All, IfOk, List, IfSome, ◌^◌, ◌<◌};
 ghost use Rattle.httparse.specs.Spans.{IsHeaderWithin, header_bytes};
-ghost use Rattle.resin_http.specs.Fields.{body_length, values_of, content_length, has_field, length_of, next_length, method_of, taken, header_of, begins_with_slash};
+ghost use Rattle.resin_http.specs.Fields.{body_length, values_of, content_length, has_field, length_of};
+ghost use Rattle.resin_http.specs.Fields.{next_length, method_of, taken, header_of, begins_with_slash};
 
 use crate::request::Method;
 use httparse::spans::HeaderSpan;

@@ -2,7 +2,8 @@
 ghost use Rattle.std.specs.Prelude.{◌≡◌, [], ◌++◌, IfOk, OnOk, unwrap_or};
 ghost use Rattle.http.specs.StatusCode.{reason_phrase};
 ghost use Rattle.std.specs.List.{flat_map};
-ghost use Rattle.resin_http.specs.Response.{response, response_head, phrase_of, status_line, type_line, kind_line, has_type, header_line, length_line};
+ghost use Rattle.resin_http.specs.Response.{response, response_head, phrase_of, status_line};
+ghost use Rattle.resin_http.specs.Response.{type_line, kind_line, has_type, header_line, length_line};
 
 use http::StatusCode;
 use itoa::Buffer;

@@ -61,7 +61,7 @@ fn push_call(alloc: Global, out: &mut Line, m: &mut Machine, name: &str, args: &
 fn push_on_machine(alloc: Global, out: &mut Line, name: &str, args: &Values, machine: Machine) {
     let mut m = machine;
     push_call(alloc, out, &mut m, name, args);
-    push_left(alloc, out, &m.finish());
+    push_left(alloc, out, m.finish());
 }
 
 fn push_called(alloc: Global, out: &mut Line, name: &str, args: &Values) {

@@ -1,11 +1,12 @@
-//! Runs the script on each line, as code behind `<?php `, and prints how it ended, the status with the headers that it set, the body, and the denials and the
-//! mail that it left, where there are any. `\n` on a line stands for that byte, and in what is printed `\r` and `\0` do too. A line that begins with `# ` is a heading
-//! and is printed as it is. A script has 100,000 ticks; where a number and `|` stand before it, it has as many as that, and the ticks that it took are printed too.
-//! A line `call NAME|ARGUMENT|..` calls a function by its name, with texts and without a script, and prints what it gives.
+//! Runs the script on each line, as code behind `<?php `, and prints how it ended, the status with the headers that it set, the body, and
+//! the denials and the mail that it left, where there are any. `\n` on a line stands for that byte, and in what is printed `\r` and `\0` do
+//! too. A line that begins with `# ` is a heading and is printed as it is. A script has 100,000 ticks; where a number and `|` stand before
+//! it, it has as many as that, and the ticks that it took are printed too. A line `call NAME|ARGUMENT|..` calls a function by its name,
+//! with texts and without a script, and prints what it gives.
 //!
-//! The input, and the output, which was worked out by PHP 8.2 and by hand from the PHP manual and this project's profile, are the table of the tests of scripts.
-//! The rows under "Cost" add 100,000 or 300,000 entries to one array: where each turn copied what is there, they would take 5,000,000,000 to 45,000,000,000 steps, and
-//! the program would not end in the time that it has.
+//! The input, and the output, which was worked out by PHP 8.2 and by hand from the PHP manual and this project's profile, are the table of
+//! the tests of scripts. The rows under "Cost" add 100,000 or 300,000 entries to one array: where each turn copied what is there, they
+//! would take 5,000,000,000 to 45,000,000,000 steps, and the program would not end in the time that it has.
 #![tactic(auto)]
 
 mod calls;

@@ -87,7 +87,7 @@ fn push_on_machine(alloc: Global, out: &mut Line, fuel: Fuel, p: &Program, machi
     let mut m = machine;
     push_run(alloc, out, &mut m, p);
     push_spent(out, fuel, m.ticks());
-    push_left(alloc, out, &m.finish());
+    push_left(alloc, out, m.finish());
 }
 
 fn push_program(alloc: Global, out: &mut Line, fuel: Fuel, p: &Program) {

@@ -81,8 +81,10 @@ fn push_denial(alloc: Global, out: &mut Line, event: &Event) {
 }
 
 /// What a script left behind.
-pub fn push_left(alloc: Global, out: &mut Line, left: &Finished) {
-    push_head(alloc, out, left.status, left.headers.as_slice());
+pub fn push_left(alloc: Global, out: &mut Line, left: Finished) {
+    if let Some(headers) = out.taken(left.headers.into_list(alloc)) {
+        push_head(alloc, out, left.status, headers.as_slice());
+    }
     out.push_str(" | ");
     push_shown(alloc, out, left.body.as_slice());
     for event in left.journal.as_slice() {

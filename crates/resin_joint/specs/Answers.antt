@@ -14,8 +14,8 @@ IsMore bytes q = IsText joint bytes q
 abbrev pub before_dot : List ℕ → List ℕ
 before_dot bytes = if ends_with nat_eq bytes (codes ".") then take (length bytes - 1) bytes else bytes
 
--- Where the name or number begins that some bytes end with: one beyond its limit. Behind a `.` it is the table before that, by which the second column of ON is
--- on the first's side.
+-- Where the name or number begins that some bytes end with: one beyond its limit. Behind a `.` it is the table before that, by which the
+-- second column of ON is on the first's side.
 abbrev pub start : List ℕ → ℕ
 start bytes = last_start 0 0 (before_dot bytes)
 

@@ -1,5 +1,5 @@
--- `SELECT f, .. FROM t`, then optionally WHERE, as a form over bytes. An f is `COUNT(*)`, `SUM(c)`, `MIN(c)`, `MAX(c)` or `GROUP_CONCAT(c)`; its bracket
--- stands without a blank behind the word, which is read in any case.
+-- `SELECT f, .. FROM t`, then optionally WHERE, as a form over bytes. An f is `COUNT(*)`, `SUM(c)`, `MIN(c)`, `MAX(c)` or
+-- `GROUP_CONCAT(c)`; its bracket stands without a blank behind the word, which is read in any case.
 use Rattle.std.specs.Prelude.{ℕ, Bool, true, false, ◌||◌, ◌==◌, List, [], ◌∷◌, ◌++◌, codes, Option, Some, None, if◌then◌else◌}
 use Rattle.resin_form.specs.Form.{give, next, many, taken}
 use Rattle.resin_scan.specs.Bytes.{lower}
@@ -52,7 +52,9 @@ bracket g = gap >> inside g >>= λ it. sign 41 >> give it
 -- ---- an item behind a comma
 
 unfoldable pub min_or_max : Rule Function
-min_or_max = next (λ t. lower t.byte == 105 || lower t.byte == 97) (λ t. taken (either (lower t.byte == 105) (letters (codes "n") >> give f.Min) (letters (codes "x") >> give f.Max)))
+min_or_max =
+    next (λ t. lower t.byte == 105 || lower t.byte == 97) (λ t.
+    taken (either (lower t.byte == 105) (letters (codes "n") >> give f.Min) (letters (codes "x") >> give f.Max)))
 
 abbrev pub begins_function : ℕ → Bool
 begins_function b = b == 99 || b == 115 || b == 109 || b == 103

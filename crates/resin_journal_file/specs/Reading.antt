@@ -1,5 +1,6 @@
 -- Reading a journal file from its front, item by item: what a text can be, worked out line by line.
-use Rattle.std.specs.Prelude.{ℕ, zero, suc, ◌+◌, ◌-◌, ◌^◌, min, Bool, true, ◌&&◌, not, nat_lt, nat_le, nat_eq, List, [], ◌∷◌, length, take, drop, replicate, get_or, codes, decimal, Option, Some, None, if◌then◌else◌}
+use Rattle.std.specs.Prelude.{ℕ, zero, suc, ◌+◌, ◌-◌, ◌^◌, min, Bool, true, ◌&&◌, not, nat_lt, nat_le, nat_eq}
+use Rattle.std.specs.Prelude.{List, [], ◌∷◌, length, take, drop, replicate, get_or, codes, decimal, Option, Some, None, if◌then◌else◌}
 use Rattle.std.specs.List.{slice_split, position_or_len, before_first, after_first, list_all, flat_map, zip}
 use Rattle.std.specs.Cmp.Lexicographic.{pointwise}
 use Rattle.resin_bytes.specs.Numbers.{decimal_value}
@@ -61,7 +62,8 @@ name (b ∷ bs) = if begins_name b && list_all is_name_byte bs then Some (b ∷ 
 
 abbrev pub channel : List ℕ → Option Channel
 channel s =
-    if is_text s (codes "http") then Some Http else (if is_text s (codes "header") then Some Header else (if is_text s (codes "email") then Some Email else
+    if is_text s (codes "http") then Some Http else (if is_text s (codes "header") then Some Header else
+    (if is_text s (codes "email") then Some Email else
     (if is_text s (codes "file") then Some File else (if is_text s (codes "sql") then Some Sql else (if is_text s (codes "code") then Some Code else
     (if is_text s (codes "input") then Some Input else (if is_text s (codes "func") then Some Func else None)))))))
 
@@ -172,7 +174,8 @@ pub record Heading : Type 0 where
 
 abbrev pub heading : List (List ℕ) → Option Heading
 heading fs =
-    and_then (next_number LARGEST fs) (λ w. and_then (next_channel w.1) (λ c. and_then (next_number LONGEST c.1) (λ len. and_then (next_number LARGEST len.1) (λ count.
+    and_then (next_number LARGEST fs) (λ w. and_then (next_channel w.1) (λ c. and_then (next_number LONGEST c.1) (λ len.
+    and_then (next_number LARGEST len.1) (λ count.
     at_end (record { write = w.0; channel = c.0; len = len.0; count = count.0 }) count.1))))
 
 abbrev pub sent : List (List ℕ) → List ℕ → Option (Item × List ℕ)

@@ -118,7 +118,8 @@ fn push_object(
     number: u32,
     class: &Bytes,
 ) -> Result<(), AllocError>
-    ensures { OnOk result (text.new ≡ text.old ++ join_with_byte 32 (verb.now ∷ decimal write ∷ channel_name channel ∷ decimal number ∷ class.now ∷ [])) }
+    ensures { OnOk result (text.new
+        ≡ text.old ++ join_with_byte 32 (verb.now ∷ decimal write ∷ channel_name channel ∷ decimal number ∷ class.now ∷ [])) }
 {
     text.push_slice(verb)?;
     push_number(text, write)?;

@@ -1,8 +1,8 @@
 //! Values lent for one call: what stands in places of a caller is handed on by value, and put back behind the call.
 #![tactic(auto)]
 
-/// Takes the values out of four places, calls `f` with them, and puts into the places what `f` gives back of them; the answer is the last that `f` gives. Nothing unwinds, so
-/// no one meets a place while it is empty. For fewer places lend a `()` of one's own.
+/// Takes the values out of four places, calls `f` with them, and puts into the places what `f` gives back of them; the answer is the last
+/// that `f` gives. Nothing unwinds, so no one meets a place while it is empty. For fewer places lend a `()` of one's own.
 pub fn lend_four<A, B, C, D, R, F: FnOnce(A, B, C, D) -> (A, B, C, D, R)>(
     a: &mut A,
     b: &mut B,

@@ -186,7 +186,8 @@ first_index xs =
 
 unfoldable pub first_property : List ℕ → Step
 first_property xs =
-    if byte xs 0 == 45 && (byte xs 1 == 62 && begins_name (byte xs 2)) then Token s.Property (2 + prefix_len is_name_byte (drop 2 xs)) Leave else Fault
+    if byte xs 0 == 45 && (byte xs 1 == 62 && begins_name (byte xs 2))
+    then Token s.Property (2 + prefix_len is_name_byte (drop 2 xs)) Leave else Fault
 
 abbrev pub first : Option Open → ℕ → List ℕ → Step
 first None at xs = first_in_code at xs

@@ -1,9 +1,11 @@
 //! What copies of a text share.
-ghost use Rattle.std.specs.Prelude.{◌≡◌, ◌==◌, ℕ, ◌-◌, ◌<◌, ◌≤◌, ◌++◌, length, map, slice_index, slice_index_or, slice_range, ◌+◌, ◌↔◌, Err, IfOk, OnOk, OnErr};
+ghost use Rattle.std.specs.Prelude.{◌≡◌, ◌==◌, ℕ, ◌-◌, ◌<◌, ◌≤◌, ◌++◌, length, map, slice_index};
+ghost use Rattle.std.specs.Prelude.{slice_index_or, slice_range, ◌+◌, ◌↔◌, Err, IfOk, OnOk, OnErr};
 ghost use Rattle.std.specs.List.{zip};
 ghost use Rattle.std.specs.Rc.{rc_slice_items};
 ghost use Rattle.resin_label.specs.Sets.{empty};
-ghost use Rattle.resin_lstr.specs.Texts.{bytes_of, sets_of, carrying, marked, unmarked, mapped, with_parts, ArePartsFrom, distinct_sets, policies_in_order, first_run};
+ghost use Rattle.resin_lstr.specs.Texts.{bytes_of, sets_of, carrying, marked, unmarked, mapped, with_parts};
+ghost use Rattle.resin_lstr.specs.Texts.{ArePartsFrom, distinct_sets, policies_in_order, first_run};
 ghost use Rattle.resin_lstr.specs.Tables.{replaced};
 ghost use Rattle.resin_lstr.specs.Faults.{GivesText};
 

@@ -1,5 +1,6 @@
 //! Runs of equal sets.
-ghost use Rattle.std.specs.Prelude.{◌≡◌, ℕ, ◌+◌, ◌-◌, ◌<◌, ◌≤◌, ◌++◌, ◌↔◌, length, take, drop, map, position, replicate, nat_eq, OnOk, OnErr, IfOk, IfSome, IsTrue};
+ghost use Rattle.std.specs.Prelude.{◌≡◌, ℕ, ◌+◌, ◌-◌, ◌<◌, ◌≤◌, ◌++◌, ◌↔◌, length, take, drop, map};
+ghost use Rattle.std.specs.Prelude.{position, replicate, nat_eq, OnOk, OnErr, IfOk, IfSome, IsTrue};
 ghost use Rattle.std.specs.List.{flat_map, fold, prefix_len};
 ghost use Rattle.indexmap.specs.IndexSet.{insert_key};
 ghost use Rattle.resin_label.specs.Sets.{NumberSet, contains, insert, remove, numbers, same};

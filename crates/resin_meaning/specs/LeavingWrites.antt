@@ -29,7 +29,9 @@ abbrev pub ask_filters : (ℕ → Text → Prog Text) → ℕ → Channel → Li
 ask_filters filter w c [] t = give t
 ask_filters filter w c (f ∷ fs) t = tried (quietly (filter f t)) >>= λ end. filtered w c f t end >>= λ answer. ask_filters filter w c fs answer
 
--- the write: it draws its number; its filters are asked, as the chain stood; the text is tested or joined with others; its policies are asked; it goes out
-abbrev pub leaving_write : (ℕ → Prog (Unit {0})) → (ℕ → Text → Prog Text) → Channel → List ℕ → (Text → Prog Text) → (ℕ → Text → Prog (Unit {0})) → Text → Prog (Unit {0})
+-- the write: it draws its number; its filters are asked, as the chain stood; the text is tested or joined with others; its policies are
+-- asked; it goes out
+abbrev pub leaving_write : (ℕ → Prog (Unit {0})) → (ℕ → Text → Prog Text) → Channel → List ℕ → (Text → Prog Text)
+    → (ℕ → Text → Prog (Unit {0})) → Text → Prog (Unit {0})
 leaving_write check filter c chain prepare send t =
     act draw >>= λ w. ask_filters filter w c chain t >>= prepare >>= λ d. ask_policies check w c d (policies_in_order d) >>= λ _. send w d

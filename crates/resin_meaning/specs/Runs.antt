@@ -1,5 +1,6 @@
 -- What a run of the code has to do with a program.
-use Rattle.std.specs.Prelude.{◌≡◌, ◌≢◌, ℕ, ◌+◌, ◌≤◌, ◌<◌, List, [], ◌∷◌, ◌++◌, length, Bool, true, false, not, Option, Some, Result, Ok, Err, ◌⊎◌, if◌then◌else◌}
+use Rattle.std.specs.Prelude.{◌≡◌, ◌≢◌, ℕ, ◌+◌, ◌≤◌, ◌<◌, List, [], ◌∷◌, ◌++◌, length}
+use Rattle.std.specs.Prelude.{Bool, true, false, not, Option, Some, Result, Ok, Err, ◌⊎◌, if◌then◌else◌}
 use Rattle.std.specs.Option.{option_map}
 use Rattle.resin_base.specs.Causes.{Counted, TellsMore, is_listed}
 use Rattle.resin_base.specs.FileStore.{FileStore}
@@ -55,7 +56,8 @@ failures tables failing made (call ∷ calls) =
     then is_listed failing (made + 1) ∷ failures tables failing (made + 1) calls
     else failures tables failing (made + 1) calls
 
--- what every part of a run does: it makes calls, which are counted, and told where answers are told; ticks never rise; and what each step keeps is kept
+-- what every part of a run does: it makes calls, which are counted, and told where answers are told; ticks never rise; and what each step
+-- keeps is kept
 pub record Goes (w w' : World) : Type 0 where
   pub calls : List KeeperCall
   pub made : w'.calls.made ≡ w.calls.made + length calls

@@ -26,7 +26,8 @@ pub fn read_file<F: Files>(
     settle(calls, answer)
 }
 
-/// Sets the bytes and the shadow text at a path. Where the shadow text is what is written of policies of these bytes, it sets the bytes with these policies.
+/// Sets the bytes and the shadow text at a path. Where the shadow text is what is written of policies of these bytes, it sets the bytes
+/// with these policies.
 pub fn write_file<F: Files>(
     m: &Machine,
     files: &mut F,

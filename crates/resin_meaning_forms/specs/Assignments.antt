@@ -1,5 +1,5 @@
--- Assignments (PHP manual, "Assignment Operators" and "Incrementing/Decrementing Operators"). The target's index expressions come first, then the right
--- side; a compound form then reads the old value and combines; then the value is stored.
+-- Assignments (PHP manual, "Assignment Operators" and "Incrementing/Decrementing Operators"). The target's index expressions come first,
+-- then the right side; a compound form then reads the old value and combines; then the value is stored.
 use Rattle.std.specs.Prelude.{ℕ, pos, ◌+ℤ◌, ◌-ℤ◌, List, if◌then◌else◌}
 use Rattle.resin_builtin.specs.Under.label.Sets.{empty as no_labels}
 use Rattle.resin_builtin.specs.Under.scalar.declared.faults.ScriptFault.TheVariants.{BadOperand}

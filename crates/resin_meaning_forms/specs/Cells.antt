@@ -1,5 +1,5 @@
--- Cells of tables: how the literals of a statement are kept, and what a read makes of a stored cell (RESIN's persistent policies in outline; the rest is this
--- project's own).
+-- Cells of tables: how the literals of a statement are kept, and what a read makes of a stored cell (RESIN's persistent policies in
+-- outline; the rest is this project's own).
 use Rattle.std.specs.Prelude.{ℕ, nat_lt, List, [], ◌∷◌, ◌++◌, length, map, codes, if◌then◌else◌}
 use Rattle.resin_builtin.specs.Under.label.Sets.{NumberSet, empty as no_labels}
 use Rattle.resin_builtin.specs.Under.lstr.declared.limits.TheConstants.{LONGEST}
@@ -61,7 +61,8 @@ kept_literals ev t (x ∷ xs) so_far = kept_literal ev t x >>= λ c. kept_litera
 
 -- what the filters of a cell are told: the channel, and the column as the answer names it
 abbrev pub cell_context : List ℕ → Value
-cell_context column = Arr (put (TextKey (codes "column")) (text (plain column)) (put (TextKey (codes "type")) (text (plain (channel_name Sql))) empty))
+cell_context column =
+    Arr (put (TextKey (codes "column")) (text (plain column)) (put (TextKey (codes "type")) (text (plain (channel_name Sql))) empty))
 
 -- a value with no shadow text beside it is damaged, and so is NULL where it is no stored NULL
 abbrev pub damaged_entry : Cell → LabelledEntry

@@ -1,6 +1,7 @@
--- Functions of channels: output buffers, headers, the status, mail, files and tables (PHP manual, "Output Control", "header", "http_response_code", "mail";
--- files stand in Files.antt, tables in Queries.antt).
-use Rattle.std.specs.Prelude.{ℕ, ℤ, pos, negsuc, ◌==◌, ◌||◌, ◌&&◌, not, nat_le, List, [], ◌∷◌, ◌++◌, length, Bool, true, false, if◌then◌else◌, Option, None, Some, codes}
+-- Functions of channels: output buffers, headers, the status, mail, files and tables (PHP manual, "Output Control", "header",
+-- "http_response_code", "mail"; files stand in Files.antt, tables in Queries.antt).
+use Rattle.std.specs.Prelude.{ℕ, ℤ, pos, negsuc, ◌==◌, ◌||◌, ◌&&◌, not, nat_le}
+use Rattle.std.specs.Prelude.{List, [], ◌∷◌, ◌++◌, length, Bool, true, false, if◌then◌else◌, Option, None, Some, codes}
 use Rattle.std.specs.List.{list_any}
 use Rattle.resin_builtin.specs.Under.label.Sets.{empty as no_labels}
 use Rattle.resin_builtin.specs.Under.lstr.Texts.{Text as LabelledText, bytes_of}
@@ -21,7 +22,9 @@ use Rattle.resin_target.specs.Under.machine.Steps.{awake}
 use Rattle.resin_target.specs.Under.machine.Leaving.{open_buffer, close_buffer}
 use Rattle.resin_meaning_tables.specs.Under.meaning.Programs.{Prog, give, act, ◌>>=◌}
 use Rattle.resin_meaning_forms.specs.declared.callee.ChannelFunction.{ChannelFunction}
-use Rattle.resin_meaning_forms.specs.declared.callee.ChannelFunction.TheVariants.{BufferStart, BufferGetClean, BufferEndClean, BufferEndFlush, Header as HeaderFunction, ResponseCode, Mail as MailFunction, FilePutContents, FileGetContents, Unlink, FileExists, SqlQuery}
+use Rattle.resin_meaning_forms.specs.declared.callee.ChannelFunction.TheVariants.{BufferStart, BufferGetClean, BufferEndClean, BufferEndFlush}
+use Rattle.resin_meaning_forms.specs.declared.callee.ChannelFunction.TheVariants.{Header as HeaderFunction, ResponseCode, Mail as MailFunction}
+use Rattle.resin_meaning_forms.specs.declared.callee.ChannelFunction.TheVariants.{FilePutContents, FileGetContents, Unlink, FileExists, SqlQuery}
 use Rattle.resin_meaning_forms.specs.declared.outgoing.Outgoing.TheVariants.{Header as HeaderLine, Status, Mail}
 use Rattle.resin_meaning_forms.specs.Parts.{Evals, computed, faulted, thrown_new, looked, charged, given, ◌>>◌}
 use Rattle.resin_meaning_forms.specs.Writes.{plain, context_of, leave, write_page}
@@ -122,7 +125,8 @@ channel_work ev BufferEndFlush ts = act close_buffer >>= flushed ev
 channel_work ev HeaderFunction (text line ∷ ts) = leave ev (HeaderLine (flag_in ts)) (context_of Header) line >> give null
 channel_work ev ResponseCode (n ∷ ts) = set_status ev (status_of n) n
 channel_work ev MailFunction (text to ∷ text subject ∷ text message ∷ ts) =
-    if is_one_line to && is_one_line subject then (leave ev (Mail to subject) (mail_context to) message >> give (boolean true)) else thrown_new ValueError
+    if is_one_line to && is_one_line subject
+    then (leave ev (Mail to subject) (mail_context to) message >> give (boolean true)) else thrown_new ValueError
 channel_work ev FilePutContents (text path ∷ text t ∷ ts) = put_contents ev (bytes_of path) t (flags_in ts)
 channel_work ev FileGetContents (text path ∷ ts) = get_contents ev (bytes_of path)
 channel_work ev Unlink (text path ∷ ts) = unlink (bytes_of path)

@@ -1,5 +1,7 @@
--- Functions on files (PHP manual, "file_get_contents", "file_put_contents", "unlink" and "file_exists"; what stands beside the bytes is this project's).
-use Rattle.std.specs.Prelude.{ℕ, ℤ, pos, ◌+◌, ◌==◌, ◌&&◌, ◌||◌, nat_le, List, [], ◌∷◌, ◌++◌, length, zip, Bool, true, false, if◌then◌else◌, Option, None, Some}
+-- Functions on files (PHP manual, "file_get_contents", "file_put_contents", "unlink" and "file_exists"; what stands beside the bytes is
+-- this project's).
+use Rattle.std.specs.Prelude.{ℕ, ℤ, pos, ◌+◌, ◌==◌, ◌&&◌, ◌||◌, nat_le}
+use Rattle.std.specs.Prelude.{List, [], ◌∷◌, ◌++◌, length, zip, Bool, true, false, if◌then◌else◌, Option, None, Some}
 use Rattle.std.specs.Ordering.{int_eq}
 use Rattle.resin_builtin.specs.Under.bytes.Paths.{is_lawful_path}
 use Rattle.resin_builtin.specs.Under.label.Sets.{empty as no_labels}

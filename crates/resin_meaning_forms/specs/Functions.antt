@@ -1,5 +1,5 @@
--- Functions of the runtime once they are found and their arguments are evaluated: how many arguments there are is asked first, then they are turned into
--- their kinds from the left, then what the work takes is charged, then comes the work, and then what it gives is charged.
+-- Functions of the runtime once they are found and their arguments are evaluated: how many arguments there are is asked first, then they
+-- are turned into their kinds from the left, then what the work takes is charged, then comes the work, and then what it gives is charged.
 use Rattle.std.specs.Prelude.{ℕ, ◌+◌, ◌==◌, List, [], ◌∷◌, ◌++◌, length, filter, Bool, true, false, if◌then◌else◌, Option, None, Some, Ok}
 use Rattle.resin_builtin.specs.Under.label.Sets.{NumberSet, empty as no_labels, numbers, set_of, insert, remove}
 use Rattle.resin_builtin.specs.Under.lstr.Texts.{Text as LabelledText, marked, unmarked, policies_in_order, bytes_of}
@@ -34,7 +34,8 @@ use Rattle.resin_guard.specs.declared.judge.Guard.{Guard}
 use Rattle.resin_guard.specs.declared.judge.Guard.TheVariants.{Pass}
 use Rattle.resin_meaning_tables.specs.Under.meaning.Programs.{Prog, give, act, ◌>>=◌}
 use Rattle.resin_meaning_forms.specs.declared.callee.StateFunction.{StateFunction}
-use Rattle.resin_meaning_forms.specs.declared.callee.StateFunction.TheVariants.{PolicyAdd, PolicyRemove, PolicyGet, FilterAdd, FilterRemove, FilterFunctionAdd, GetClass, SqlStructure, HtmlStructure}
+use Rattle.resin_meaning_forms.specs.declared.callee.StateFunction.TheVariants.{PolicyAdd, PolicyRemove, PolicyGet, FilterAdd, FilterRemove}
+use Rattle.resin_meaning_forms.specs.declared.callee.StateFunction.TheVariants.{FilterFunctionAdd, GetClass, SqlStructure, HtmlStructure}
 use Rattle.resin_meaning_forms.specs.Parts.{Evals, computed, faulted, ruled, thrown_new, looked, ◌>>◌}
 use Rattle.resin_meaning_forms.specs.Merges.{is_of_class, is_under, list_of_objects, merge, folded}
 use Rattle.resin_meaning_forms.specs.Operators.{set_of_number}
@@ -185,7 +186,8 @@ abbrev pub is_pass : Guard → Bool
 is_pass Pass = true
 is_pass g = false
 
--- A guard against injection: whether each byte that carries a policy of a class stands in a harmless place of the text. An unknown class is the fault.
+-- A guard against injection: whether each byte that carries a policy of a class stands in a harmless place of the text. An unknown class is
+-- the fault.
 abbrev pub structure : (NumberSet → LabelledText → Guard) → LabelledText → LabelledText → Prog Tree
 structure verdict t name = do
   class ← act (find_class_of (bytes_of name))

@@ -1,4 +1,5 @@
--- The inputs of a request: each value passes the filters of inputs, then they are set (PHP manual, "Variables From External Sources"; filters after RESIN).
+-- The inputs of a request: each value passes the filters of inputs, then they are set (PHP manual, "Variables From External Sources";
+-- filters after RESIN).
 use Rattle.std.specs.Prelude.{ℕ, ℤ, List, [], ◌∷◌, codes, Option, Some}
 use Rattle.std.specs.Fmt.{signed_decimal}
 use Rattle.resin_builtin.specs.Under.lstr.Texts.{Text as LabelledText}

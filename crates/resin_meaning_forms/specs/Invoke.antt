@@ -29,7 +29,8 @@ use Rattle.resin_target.specs.Under.heap.Prelude.{prelude_method_at}
 use Rattle.resin_target.specs.Under.heap.declared.classes.MethodAt.{MethodAt}
 use Rattle.resin_target.specs.Under.heap.declared.prelude.PreludeClass.TheVariants.{ArgumentCountError, PolicyException}
 use Rattle.resin_target.specs.Under.heap.declared.prelude.PreludeMethod.{PreludeMethod}
-use Rattle.resin_target.specs.Under.heap.declared.prelude.PreludeMethod.TheVariants.{Construct, GetMessage, GetCode, Allow, MergeToItself, Refuse, FilterRead, FilterWrite, FilterFunction}
+use Rattle.resin_target.specs.Under.heap.declared.prelude.PreludeMethod.TheVariants.{Construct, GetMessage, GetCode, Allow, MergeToItself}
+use Rattle.resin_target.specs.Under.heap.declared.prelude.PreludeMethod.TheVariants.{Refuse, FilterRead, FilterWrite, FilterFunction}
 use Rattle.resin_target.specs.Under.machine.State.{State}
 use Rattle.resin_target.specs.Under.machine.Variables.{read, assign}
 use Rattle.resin_target.specs.Under.machine.Objects.{class_of, read_field, set_field}

@@ -1,6 +1,7 @@
--- Policies beside stored data: what is kept of the policies of a text, and what a read makes of an entry (RESIN's persistent policies in outline; the texts,
--- the charges and lost policies are this project's own).
-use Rattle.std.specs.Prelude.{ℕ, Bool, ◌==◌, ◌&&◌, nat_lt, not, slice_index_or, List, [], ◌∷◌, ◌++◌, length, map, zip, codes, Option, None, Some, if◌then◌else◌}
+-- Policies beside stored data: what is kept of the policies of a text, and what a read makes of an entry (RESIN's persistent policies in
+-- outline; the texts, the charges and lost policies are this project's own).
+use Rattle.std.specs.Prelude.{ℕ, Bool, ◌==◌, ◌&&◌, nat_lt, not, slice_index_or}
+use Rattle.std.specs.Prelude.{List, [], ◌∷◌, ◌++◌, length, map, zip, codes, Option, None, Some, if◌then◌else◌}
 use Rattle.std.specs.Option.{option_map, option_and_then}
 use Rattle.resin_builtin.specs.Under.label.Sets.{NumberSet, numbers, same, empty as no_labels, set_of as labels_of}
 use Rattle.resin_builtin.specs.Under.lstr.declared.limits.TheConstants.{LONGEST}
@@ -30,7 +31,8 @@ use Rattle.resin_meaning_forms.specs.Parts.{faulted, looked, ◌>>◌}
 
 -- ---- freezing: what is kept of the policies of a text
 
--- the policy text of an object: that of its class and fields, without the labels inside them; of a lost policy that of what it was. None where it has none
+-- the policy text of an object: that of its class and fields, without the labels inside them; of a lost policy that of what it was. None
+-- where it has none
 abbrev pub frozen_policy : State → ℕ → Option (List ℕ)
 frozen_policy m o = if is_object m.heap o then frozen (class_name_of o m) (fields_at m.heap o) else None
 
@@ -116,15 +118,18 @@ labels_for table objects s = labels_of (map (λ place. slice_index_or objects pl
 abbrev pub labelled : List (List ℕ) → List ℕ → Marked → LabelledText
 labelled table objects d = map (λ b. (b.0, labels_for table objects b.1)) d
 
--- the bytes with their policies: each policy text takes a tick, all before the first object is made, and is one object, in the order of the shadow's table
+-- the bytes with their policies: each policy text takes a tick, all before the first object is made, and is one object, in the order of the
+-- shadow's table
 abbrev pub thaw_marked : Marked → Prog LabelledText
 thaw_marked d =
-    act (charge (length (policies (marks d)))) >>= λ _. thaw_policies [] (policies (marks d)) >>= λ objects. give (labelled (policies (marks d)) objects d)
+    act (charge (length (policies (marks d)))) >>= λ _. thaw_policies [] (policies (marks d)) >>= λ objects.
+    give (labelled (policies (marks d)) objects d)
 
 -- The sets of objects that some bytes carry, each once, in the order in which they first occur. The objects are charged and made in the same way.
 abbrev pub thaw_sets : Marks → Prog (List NumberSet)
 thaw_sets w =
-    act (charge (length (policies w))) >>= λ _. thaw_policies [] (policies w) >>= λ objects. give (distinct same (map (labels_for (policies w) objects) w))
+    act (charge (length (policies w))) >>= λ _. thaw_policies [] (policies w) >>= λ objects.
+    give (distinct same (map (labels_for (policies w) objects) w))
 
 -- a read of an entry that holds so many bytes
 abbrev pub thaw_short : LabelledEntry → Prog LabelledText

@@ -1,4 +1,5 @@
--- The names by which scripts call functions (PHP manual; `policy_`, `filter_`, `sql_query` and `_structure` are this project's, after RESIN). They ignore ASCII case.
+-- The names by which scripts call functions (PHP manual; `policy_`, `filter_`, `sql_query` and `_structure` are this project's, after
+-- RESIN). They ignore ASCII case.
 use Rattle.std.specs.Prelude.{ℕ, Bool, List, [], ◌∷◌, Option, None, Some, is_some, if◌then◌else◌, codes}
 use Rattle.std.specs.Option.{option_map}
 use Rattle.resin_builtin.specs.Under.scan.Words.{spells}
@@ -10,9 +11,12 @@ use Rattle.resin_meaning_tables.specs.Under.meaning.Programs.{Prog, give, ◌>>=
 use Rattle.resin_meaning_forms.specs.declared.callee.Callee.{Callee}
 use Rattle.resin_meaning_forms.specs.declared.callee.Callee.TheVariants.{Script, Builtin, State as OfState, Channel}
 use Rattle.resin_meaning_forms.specs.declared.callee.StateFunction.{StateFunction}
-use Rattle.resin_meaning_forms.specs.declared.callee.StateFunction.TheVariants.{PolicyAdd, PolicyRemove, PolicyGet, FilterAdd, FilterRemove, FilterFunctionAdd, GetClass, SqlStructure, HtmlStructure}
+use Rattle.resin_meaning_forms.specs.declared.callee.StateFunction.TheVariants.{PolicyAdd, PolicyRemove, PolicyGet, FilterAdd, FilterRemove}
+use Rattle.resin_meaning_forms.specs.declared.callee.StateFunction.TheVariants.{FilterFunctionAdd, GetClass, SqlStructure, HtmlStructure}
 use Rattle.resin_meaning_forms.specs.declared.callee.ChannelFunction.{ChannelFunction}
-use Rattle.resin_meaning_forms.specs.declared.callee.ChannelFunction.TheVariants.{BufferStart, BufferGetClean, BufferEndClean, BufferEndFlush, Header, ResponseCode, Mail, FilePutContents, FileGetContents, Unlink, FileExists, SqlQuery}
+use Rattle.resin_meaning_forms.specs.declared.callee.ChannelFunction.TheVariants.{BufferStart, BufferGetClean, BufferEndClean}
+use Rattle.resin_meaning_forms.specs.declared.callee.ChannelFunction.TheVariants.{BufferEndFlush, Header, ResponseCode, Mail, FilePutContents}
+use Rattle.resin_meaning_forms.specs.declared.callee.ChannelFunction.TheVariants.{FileGetContents, Unlink, FileExists, SqlQuery}
 use Rattle.resin_meaning_forms.specs.Parts.{faulted, looked}
 
 unfoldable pub state_names : List (List ℕ × StateFunction)

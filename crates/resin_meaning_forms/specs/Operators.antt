@@ -10,7 +10,8 @@ use Rattle.resin_builtin.specs.Under.lstr.declared.limits.TheConstants.{LONGEST}
 use Rattle.resin_builtin.specs.Under.lstr.Texts.{Text as LabelledText}
 use Rattle.resin_builtin.specs.Under.scalar.declared.faults.CallStop.{CallStop}
 use Rattle.resin_builtin.specs.Under.scalar.declared.faults.CallStop.TheVariants.{Fault as CallFault}
-use Rattle.resin_builtin.specs.Under.scalar.declared.faults.ScriptFault.TheVariants.{BadOperand, ObjectComparison, FloatNeeded, FuelSpent, TextTooLong}
+use Rattle.resin_builtin.specs.Under.scalar.declared.faults.ScriptFault.TheVariants.{BadOperand, ObjectComparison}
+use Rattle.resin_builtin.specs.Under.scalar.declared.faults.ScriptFault.TheVariants.{FloatNeeded, FuelSpent, TextTooLong}
 use Rattle.resin_builtin.specs.Under.scalar.declared.ticks.Spent.{Spent}
 use Rattle.resin_builtin.specs.Under.value.declared.compare.CompareFault.{CompareFault}
 use Rattle.resin_builtin.specs.Under.value.declared.compare.CompareFault.TheVariants.{Object, Operand, Float, Spent as NoTicks}
@@ -29,7 +30,8 @@ use Rattle.resin_target.specs.Under.tree.declared.expression.Unary.TheVariants a
 use Rattle.resin_target.specs.Under.tree.declared.expression.Combining.{Combining}
 use Rattle.resin_target.specs.Under.tree.declared.expression.Combining.TheVariants.{Multiply, Divide, Remainder, Add, Subtract, Concat}
 use Rattle.resin_target.specs.Under.tree.declared.expression.Comparison.{Comparison}
-use Rattle.resin_target.specs.Under.tree.declared.expression.Comparison.TheVariants.{Less, LessOrEqual, Greater, GreaterOrEqual, Equal, NotEqual, Identical, NotIdentical, Compare}
+use Rattle.resin_target.specs.Under.tree.declared.expression.Comparison.TheVariants.{Less, LessOrEqual, Greater, GreaterOrEqual}
+use Rattle.resin_target.specs.Under.tree.declared.expression.Comparison.TheVariants.{Equal, NotEqual, Identical, NotIdentical, Compare}
 use Rattle.resin_target.specs.Under.heap.Classes.{find_class, is_a}
 use Rattle.resin_target.specs.Under.heap.Objects.{class_at}
 use Rattle.resin_target.specs.Under.machine.State.{State}

@@ -1,4 +1,5 @@
--- `sql_query` (this project's, after RESIN's SQL filter): a statement over tables, whose literals are kept with their policies, and whose cells bring theirs back.
+-- `sql_query` (this project's, after RESIN's SQL filter): a statement over tables, whose literals are kept with their policies, and whose
+-- cells bring theirs back.
 use Rattle.std.specs.Prelude.{ℕ, pos, List, [], ◌∷◌, Option, None, Some, Result, Ok, Err}
 use Rattle.resin_builtin.specs.Under.array_fn.Filled.{added_at}
 use Rattle.resin_builtin.specs.Under.label.Sets.{empty as no_labels}

@@ -1,4 +1,5 @@
--- What is kept and what is read passes the filters of its channel (RESIN's default filters in outline). Nothing leaves there, so no write has a number.
+-- What is kept and what is read passes the filters of its channel (RESIN's default filters in outline). Nothing leaves there, so no write
+-- has a number.
 use Rattle.std.specs.Prelude.{ℕ, List, [], ◌∷◌, codes}
 use Rattle.resin_builtin.specs.Under.lstr.Texts.{Text as LabelledText}
 use Rattle.resin_target.specs.Under.journal.declared.channel.Channel.{Channel}

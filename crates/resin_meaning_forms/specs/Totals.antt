@@ -35,8 +35,8 @@ total_value ev name set cell.Null = give null
 total_value ev name set (cell.Int n) = give (integer n set)
 total_value ev name set (cell.Text bytes) = read_text ev name (carrying set bytes)
 
--- All cells of an item are looked at first; then objects are made for their policy texts, one for each distinct text; then the value is computed; then the
--- distinct sets of the cells' bytes and integers are merged to one, in the order in which they first occur.
+-- All cells of an item are looked at first; then objects are made for their policy texts, one for each distinct text; then the value is
+-- computed; then the distinct sets of the cells' bytes and integers are merged to one, in the order in which they first occur.
 abbrev pub item_total : Evals → TotalItem → ℕ → List StoredCell → Prog Tree
 item_total ev it chosen cells = do
   w ← marks_of_cells cells []

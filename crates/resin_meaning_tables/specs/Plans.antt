@@ -1,4 +1,5 @@
--- Plans of keeper calls on tables as programs (resin_plan and resin_sql_more have the plans of statements, resin_meaning what each call asks of the tables).
+-- Plans of keeper calls on tables as programs (resin_plan and resin_sql_more have the plans of statements, resin_meaning what each call
+-- asks of the tables).
 use Rattle.std.specs.Prelude.{ℕ, Result, Ok, Err}
 use Rattle.resin_machine.specs.State.{State}
 use Rattle.resin_machine.specs.Steps.{Act, faults}

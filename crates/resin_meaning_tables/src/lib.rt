@@ -1,7 +1,7 @@
 //! Statements over tables as programs: the keeper calls of a statement are those of the run, and where one stops, the run does.
 //!
-//! `specs/Plans.antt` says what a plan of keeper calls (`resin_plan`, `resin_sql_more`) means as a program, and each function here promises that it does what
-//! the plan of its statement means, whatever calls fail.
+//! `specs/Plans.antt` says what a plan of keeper calls (`resin_plan`, `resin_sql_more`) means as a program, and each function here promises
+//! that it does what the plan of its statement means, whatever calls fail.
 #![tactic(auto)]
 
 mod statements;

@@ -1,5 +1,5 @@
-//! Statements carried out. Each is refused, or has its answer, or stops the run: by `Keeper` where a keeper call failed, and by the fault FuelSpent where no
-//! number is left for one.
+//! Statements carried out. Each is refused, or has its answer, or stops the run: by `Keeper` where a keeper call failed, and by the fault
+//! FuelSpent where no number is left for one.
 ghost use Rattle.resin_meaning.specs.Runs.{Does, Seen, seen, world};
 ghost use Rattle.resin_meaning.specs.Under.store.Files.{LabelledFiles};
 ghost use Rattle.resin_meaning_tables.specs.Plans.{carried_out, carried_with_ticks};

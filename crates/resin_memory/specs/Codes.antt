@@ -22,7 +22,8 @@ abbrev pub bytes_code : Coded (List ℕ)
 bytes_code = coded_list coded_ℕ
 
 abbrev pub entry_code : Coded Entry
-entry_code = code_by (List ℕ × List ℕ) (coded× bytes_code bytes_code) (λ e. (e.bytes, e.shadow)) (λ p. record { bytes = p.0; shadow = p.1 }) (λ _. refl)
+entry_code =
+    code_by (List ℕ × List ℕ) (coded× bytes_code bytes_code) (λ e. (e.bytes, e.shadow)) (λ p. record { bytes = p.0; shadow = p.1 }) (λ _. refl)
 
 abbrev pub file_store_code : Coded FileStore
 file_store_code = map.code bytes_code entry_code

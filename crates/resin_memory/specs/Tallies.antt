@@ -1,5 +1,6 @@
 -- Which calls of a fake object fail, and how it counts them (this project).
-use Rattle.std.specs.Prelude.{◌≡◌, ℕ, zero, suc, ◌+◌, min, nat_lt, Bool, true, false, ◌&&◌, List, [], ◌∷◌, ◌++◌, Option, Some, None, Result, Ok, Err, if◌then◌else◌}
+use Rattle.std.specs.Prelude.{◌≡◌, ℕ, zero, suc, ◌+◌, min, nat_lt, Bool, true, false, ◌&&◌}
+use Rattle.std.specs.Prelude.{List, [], ◌∷◌, ◌++◌, Option, Some, None, Result, Ok, Err, if◌then◌else◌}
 use Rattle.resin_base.specs.Causes.{last_count, is_listed}
 use Rattle.resin_base.specs.declared.faults.Failed.{Failed as Fault}
 use Rattle.resin_base.specs.declared.faults.KeepFault.{KeepFault}

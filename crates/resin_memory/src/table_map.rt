@@ -4,7 +4,8 @@ ghost use Rattle.std.specs.Option.{option_copied};
 ghost use Rattle.std.specs.FinMap.{find, from_entries, insert};
 ghost use Rattle.std.specs.FinMap as map;
 ghost use Rattle.resin_base.specs.Contents.{byte_order};
-ghost use Rattle.resin_base.specs.TableStore.{EachWhole, table_of, columns_of, rows_of, with_rows, with_cells, without_number, has_row, can_update, next_number, after_create, after_insert, after_update, after_delete};
+ghost use Rattle.resin_base.specs.TableStore.{EachWhole, table_of, columns_of, rows_of, with_rows, with_cells, without_number};
+ghost use Rattle.resin_base.specs.TableStore.{has_row, can_update, next_number, after_create, after_insert, after_update, after_delete};
 
 use crate::copies::{copy_cells, copy_columns, copy_rows};
 use crate::places::{place_of, value_at};

@@ -218,7 +218,8 @@ impl<'l> Declarations<'l> {
     /// The members of a class, in braces that open here.
     pub fn members_inside(&self, tokens: &mut Cursor<'_, Token>) -> Result<Members, Fault>
         requires { 0 < self.now.reader.depth }
-        ensures { Reads (reading (declarations.rules (line_by self.now.reader)) is_low (suc self.now.reader.depth) (name.ClassMembers) tokens.old) result tokens.new }
+        ensures { Reads (reading (declarations.rules (line_by self.now.reader)) is_low
+            (suc self.now.reader.depth) (name.ClassMembers) tokens.old) result tokens.new }
     {
         let inner = Declarations {
             reader: self.reader.inside(),

@@ -19,6 +19,9 @@ place_of end (t ∷ ts) = t.from
 -- place of the token that cannot go on; or that of the token before what is left, which opens a construct too many
 abbrev pub IsAnswer : TokenList → ℕ → ℕ → Result (Expr × ℕ) ParseFault → Type 0
 IsAnswer t at depth (Ok (e, next)) = (next ≤ length t.tokens) × IsRead rules expression is_low (suc depth) (drop at t.tokens) e (drop next t.tokens)
-IsAnswer t at depth (Err (fault.Syntax place)) = (rest : List Token) × IsRefused rules expression is_low (suc depth) (drop at t.tokens) rest × (place ≡ place_of t.end rest)
-IsAnswer t at depth (Err (fault.TooDeep place)) = (rest : List Token) × IsTooDeep rules expression is_low (suc depth) (drop at t.tokens) rest × (place ≡ place_of t.end (drop (length t.tokens - length rest - 1) t.tokens))
+IsAnswer t at depth (Err (fault.Syntax place)) =
+    (rest : List Token) × IsRefused rules expression is_low (suc depth) (drop at t.tokens) rest × (place ≡ place_of t.end rest)
+IsAnswer t at depth (Err (fault.TooDeep place)) =
+    (rest : List Token) × IsTooDeep rules expression is_low (suc depth) (drop at t.tokens) rest
+    × (place ≡ place_of t.end (drop (length t.tokens - length rest - 1) t.tokens))
 IsAnswer t at depth (Err fault.Memory) = Unit {0}

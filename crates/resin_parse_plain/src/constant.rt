@@ -165,7 +165,8 @@ impl<'l, F: Fn(Reader<'_>, &mut Cursor<'_, Token>) -> Result<Constant, Fault> + 
         first_closed: bool,
     ) -> Result<(Items<ConstantItem>, bool), Fault>
         requires { NestsConstants (self.now.reader.depth + 1) (F.pre self.now.nested) (F.post self.now.nested) }
-        ensures { Reads (under (line_in self.now.reader.lines.now) self.now.reader.depth (spec.more_items close (first, first_closed)) tokens.old) result tokens.new }
+        ensures { Reads (under (line_in self.now.reader.lines.now) self.now.reader.depth
+            (spec.more_items close (first, first_closed)) tokens.old) result tokens.new }
     {
         let mut items = first;
         let mut closed = first_closed;
@@ -208,7 +209,8 @@ impl<'l, F: Fn(Reader<'_>, &mut Cursor<'_, Token>) -> Result<Constant, Fault> + 
     ) -> Result<Items<ConstantItem>, Fault>
         requires nests { NestsConstants self.now.reader.depth (F.pre self.now.nested) (F.post self.now.nested) }
         requires room { 0 < self.now.reader.depth }
-        ensures { Reads (reading (rules (line_in self.now.reader.lines.now)) is_low (suc self.now.reader.depth) (name.ConstantItems close) tokens.old) result tokens.new }
+        ensures { Reads (reading (rules (line_in self.now.reader.lines.now)) is_low
+            (suc self.now.reader.depth) (name.ConstantItems close) tokens.old) result tokens.new }
     {
         self.inside().items(tokens, close)
     }
@@ -248,7 +250,8 @@ impl<'l, F: Fn(Reader<'_>, &mut Cursor<'_, Token>) -> Result<Constant, Fault> + 
         kind: &TokenKind,
     ) -> Result<Constant, Fault>
         requires { NestsConstants self.now.reader.depth (F.pre self.now.nested) (F.post self.now.nested) }
-        ensures { Reads (behind (line_in self.now.reader.lines.now) self.now.reader.depth (spec.constant_behind kind.now) tokens.old) result tokens.new }
+        ensures { Reads (behind (line_in self.now.reader.lines.now) self.now.reader.depth
+            (spec.constant_behind kind.now) tokens.old) result tokens.new }
     {
         match kind {
             TokenKind::Int(n) => Ok(Constant::Literal(Literal::Int(*n))),

@@ -180,7 +180,8 @@ impl<'l> Reader<'l> {
     /// Parameters, or none, in a construct that opens here.
     fn parameters_inside(&self, tokens: &mut Cursor<'_, Token>) -> Result<Items<Parameter>, Fault>
         requires { 0 < self.now.depth }
-        ensures { Reads (reading (rules (line_in self.now.lines.now)) is_low (suc self.now.depth) name.FunctionParameters tokens.old) result tokens.new }
+        ensures { Reads (reading (rules (line_in self.now.lines.now)) is_low
+            (suc self.now.depth) name.FunctionParameters tokens.old) result tokens.new }
     {
         self.inside().parameters(tokens)
     }

@@ -187,7 +187,8 @@ impl<'l> Reader<'l> {
 
     /// `e;`
     pub fn expression_statement(&self, tokens: &mut Cursor<'_, Token>) -> Result<Stmt, Fault>
-        ensures { Reads (under (line_in self.now.lines.now) self.now.depth (spec.whole_expression_statement (line_in self.now.lines.now)) tokens.old) result tokens.new }
+        ensures { Reads (under (line_in self.now.lines.now) self.now.depth
+            (spec.whole_expression_statement (line_in self.now.lines.now)) tokens.old) result tokens.new }
     {
         match tokens.peek() {
             Some(next) if begins_expression(next) => self.done(tokens, self.lines.line_of(next)),

@@ -46,8 +46,8 @@ form_of line (Part in_loop c e) = part_from line in_loop c e >>= λ st. give (al
 pub record Nests (bound : ℕ) (pre : Reader → MutBor (List Token) → Nested → Type 0)
     (post : Reader → MutBor (List Token) → Nested → Result (Stmt × Left) Fault → MutBor (List Token) → Type 0) : Type 0 where
   pub callable : (r : Reader) (old : MutBor (List Token)) (n : Nested) → r.depth < bound → pre r old n
-  pub reads : (r : Reader) (old new : MutBor (List Token)) (n : Nested) (found : Result (Stmt × Left) Fault) → r.depth < bound → post r old n found new
-      → Reads (by r (form_of (line_by r) n) old.now) found new.now
+  pub reads : (r : Reader) (old new : MutBor (List Token)) (n : Nested) (found : Result (Stmt × Left) Fault) → r.depth < bound
+      → post r old n found new → Reads (by r (form_of (line_by r) n) old.now) found new.now
 
 -- a body behind `else`, which ends the `if`
 unfoldable pub other_body : (Token → ℕ) → Around → Chain → Rule (Stmt × Left)

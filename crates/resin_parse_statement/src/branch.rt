@@ -69,7 +69,8 @@ impl<
     ) -> Result<(Boxed<Stmt>, Left), Fault>
         requires nests { Nests self.now.reader.depth (F.pre self.now.nested) (F.post self.now.nested) }
         requires room { 0 < self.now.reader.depth }
-        ensures { Reads (reading (declarations.rules (line_by self.now.reader)) is_low (suc self.now.reader.depth) (name.Link around chain) tokens.old) result tokens.new }
+        ensures { Reads (reading (declarations.rules (line_by self.now.reader)) is_low
+            (suc self.now.reader.depth) (name.Link around chain) tokens.old) result tokens.new }
     {
         self.inside().link_within(tokens, around, chain, true)
     }
@@ -142,7 +143,8 @@ impl<
         chain: Chain,
     ) -> Result<(Boxed<Stmt>, Left), Fault>
         requires { self.now.reader.depth ≡ 0 }
-        ensures { Reads (reading (declarations.rules (line_by self.now.reader)) is_low (suc self.now.reader.depth) (name.Otherwise around chain) tokens.old) result tokens.new }
+        ensures { Reads (reading (declarations.rules (line_by self.now.reader)) is_low
+            (suc self.now.reader.depth) (name.Otherwise around chain) tokens.old) result tokens.new }
     {
         match tokens.peek() {
             Some(next) if begins_statement(around.in_loop, next) => {
@@ -162,7 +164,8 @@ impl<
     ) -> Result<(Boxed<Stmt>, Left), Fault>
         requires nests { Nests self.now.reader.depth (F.pre self.now.nested) (F.post self.now.nested) }
         requires room { 0 < self.now.reader.depth }
-        ensures { Reads (reading (declarations.rules (line_by self.now.reader)) is_low (suc self.now.reader.depth) (name.Otherwise around chain) tokens.old) result tokens.new }
+        ensures { Reads (reading (declarations.rules (line_by self.now.reader)) is_low
+            (suc self.now.reader.depth) (name.Otherwise around chain) tokens.old) result tokens.new }
     {
         self.inside().otherwise_within(tokens, around, chain)
     }
@@ -175,7 +178,8 @@ impl<
         chain: Chain,
     ) -> Result<(Boxed<Stmt>, Left), Fault>
         requires { Nests self.now.reader.depth (F.pre self.now.nested) (F.post self.now.nested) }
-        ensures { Reads (reading (declarations.rules (line_by self.now.reader)) is_low (suc self.now.reader.depth) (name.Otherwise around chain) tokens.old) result tokens.new }
+        ensures { Reads (reading (declarations.rules (line_by self.now.reader)) is_low
+            (suc self.now.reader.depth) (name.Otherwise around chain) tokens.old) result tokens.new }
     {
         if self.reader.depth == 0 {
             self.no_otherwise(tokens, around, chain)

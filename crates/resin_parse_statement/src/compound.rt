@@ -244,7 +244,8 @@ impl<
     pub fn cases_inside(&self, tokens: &mut Cursor<'_, Token>) -> Result<Items<Case>, Fault>
         requires nests { Nests self.now.reader.depth (F.pre self.now.nested) (F.post self.now.nested) }
         requires room { 0 < self.now.reader.depth }
-        ensures { Reads (reading (declarations.rules (line_by self.now.reader)) is_low (suc self.now.reader.depth) (name.Cases) tokens.old) result tokens.new }
+        ensures { Reads (reading (declarations.rules (line_by self.now.reader)) is_low
+            (suc self.now.reader.depth) (name.Cases) tokens.old) result tokens.new }
     {
         self.inside().cases(tokens)
     }
@@ -427,7 +428,8 @@ impl<
         compound: Compound,
     ) -> Result<(Boxed<Stmt>, Left), Fault>
         requires { Nests self.now.reader.depth (F.pre self.now.nested) (F.post self.now.nested) }
-        ensures { Reads (by_after self.now.reader (spec.compound_statement (line_by self.now.reader) around line compound) tokens.old) result tokens.new }
+        ensures { Reads (by_after self.now.reader (spec.compound_statement (line_by self.now.reader) around line compound) tokens.old)
+            result tokens.new }
     {
         match compound {
             Compound::Block => self.block_form(tokens, around.in_loop, line),
@@ -464,7 +466,8 @@ impl<
 
     #[tactic(auto, unfolding(resin_program_grammar::specs::Statements::left_nothing))]
     fn inline_statement(&self, tokens: &mut Cursor<'_, Token>) -> Result<(Boxed<Stmt>, Left), Fault>
-        ensures { Reads (by self.now.reader (spec.left_nothing (line_by self.now.reader) (inline_form (line_by self.now.reader))) tokens.old) result tokens.new }
+        ensures { Reads (by self.now.reader (spec.left_nothing (line_by self.now.reader) (inline_form (line_by self.now.reader))) tokens.old)
+            result tokens.new }
     {
         Ok(alone(self.reader.alloc, self.inline(tokens)?)?)
     }
@@ -476,7 +479,8 @@ impl<
         line: u32,
         plain: Plain,
     ) -> Result<(Boxed<Stmt>, Left), Fault>
-        ensures { Reads (by self.now.reader (spec.left_nothing (line_by self.now.reader) (plain_statement_spec line plain)) tokens.old) result tokens.new }
+        ensures { Reads (by self.now.reader (spec.left_nothing (line_by self.now.reader) (plain_statement_spec line plain)) tokens.old)
+            result tokens.new }
     {
         let statement = self.reader.plain_statement(tokens, line, plain)?;
         Ok(alone(self.reader.alloc, statement)?)
@@ -487,7 +491,9 @@ impl<
         &self,
         tokens: &mut Cursor<'_, Token>,
     ) -> Result<(Boxed<Stmt>, Left), Fault>
-        ensures { Reads (by self.now.reader (spec.left_nothing (line_by self.now.reader) (whole_expression_statement (line_by self.now.reader))) tokens.old) result tokens.new }
+        ensures { Reads (by self.now.reader
+            (spec.left_nothing (line_by self.now.reader) (whole_expression_statement (line_by self.now.reader))) tokens.old)
+            result tokens.new }
     {
         let statement = self.reader.expression_statement(tokens)?;
         Ok(alone(self.reader.alloc, statement)?)

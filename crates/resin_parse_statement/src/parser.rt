@@ -222,7 +222,8 @@ impl<
     ) -> Result<Items<Stmt>, Fault>
         requires nests { Nests self.now.reader.depth (F.pre self.now.nested) (F.post self.now.nested) }
         requires room { 0 < self.now.reader.depth }
-        ensures { Reads (reading (declarations.rules (line_by self.now.reader)) is_low (suc self.now.reader.depth) (name.Statements in_loop) tokens.old) result tokens.new }
+        ensures { Reads (reading (declarations.rules (line_by self.now.reader)) is_low
+            (suc self.now.reader.depth) (name.Statements in_loop) tokens.old) result tokens.new }
     {
         self.inside().inner_statements(tokens, in_loop)
     }
@@ -337,7 +338,8 @@ impl<
         around: Around,
     ) -> Result<Option<(Boxed<Stmt>, Left)>, Fault>
         requires { self.now.reader.depth ≡ 0 }
-        ensures { Reads (reading (declarations.rules (line_by self.now.reader)) is_low (suc self.now.reader.depth) (name.Body around) tokens.old) result tokens.new }
+        ensures { Reads (reading (declarations.rules (line_by self.now.reader)) is_low
+            (suc self.now.reader.depth) (name.Body around) tokens.old) result tokens.new }
     {
         match tokens.peek() {
             Some(next) if begins_statement(around.in_loop, next) => {
@@ -356,7 +358,8 @@ impl<
     ) -> Result<Option<(Boxed<Stmt>, Left)>, Fault>
         requires nests { Nests self.now.reader.depth (F.pre self.now.nested) (F.post self.now.nested) }
         requires room { 0 < self.now.reader.depth }
-        ensures { Reads (reading (declarations.rules (line_by self.now.reader)) is_low (suc self.now.reader.depth) (name.Body around) tokens.old) result tokens.new }
+        ensures { Reads (reading (declarations.rules (line_by self.now.reader)) is_low
+            (suc self.now.reader.depth) (name.Body around) tokens.old) result tokens.new }
     {
         self.inside().body_within(tokens, around)
     }
@@ -368,7 +371,8 @@ impl<
         around: Around,
     ) -> Result<Option<(Boxed<Stmt>, Left)>, Fault>
         requires { Nests self.now.reader.depth (F.pre self.now.nested) (F.post self.now.nested) }
-        ensures { Reads (reading (declarations.rules (line_by self.now.reader)) is_low (suc self.now.reader.depth) (name.Body around) tokens.old) result tokens.new }
+        ensures { Reads (reading (declarations.rules (line_by self.now.reader)) is_low
+            (suc self.now.reader.depth) (name.Body around) tokens.old) result tokens.new }
     {
         if self.reader.depth == 0 {
             self.no_body(tokens, around)

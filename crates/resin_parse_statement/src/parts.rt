@@ -93,7 +93,8 @@ impl<
     ) -> Result<Boxed<Stmt>, Fault>
         requires nests { Nests self.now.reader.depth (F.pre self.now.nested) (F.post self.now.nested) }
         requires room { 0 < self.now.reader.depth }
-        ensures { Reads (reading (declarations.rules (line_by self.now.reader)) is_low (suc self.now.reader.depth) (name.PartLink in_loop chain) tokens.old) result tokens.new }
+        ensures { Reads (reading (declarations.rules (line_by self.now.reader)) is_low
+            (suc self.now.reader.depth) (name.PartLink in_loop chain) tokens.old) result tokens.new }
     {
         self.inside().part_link(tokens, in_loop, chain)
     }
@@ -217,7 +218,8 @@ impl<
     ) -> Result<Parts, Fault>
         requires nests { Nests self.now.reader.depth (F.pre self.now.nested) (F.post self.now.nested) }
         requires room { 0 < self.now.reader.depth }
-        ensures { Reads (reading (declarations.rules (line_by self.now.reader)) is_low (suc self.now.reader.depth) (name.Part in_loop chain test line) tokens.old) result tokens.new }
+        ensures { Reads (reading (declarations.rules (line_by self.now.reader)) is_low
+            (suc self.now.reader.depth) (name.Part in_loop chain test line) tokens.old) result tokens.new }
     {
         self.inside().part(tokens, in_loop, chain, test, line)
     }

@@ -22,8 +22,10 @@ use Rattle.resin_program_grammar.specs.Words.{is_word}
 use Rattle.resin_program_grammar.specs.Leads.{is_modifier}
 use Rattle.resin_program_grammar.specs.Start.{optional}
 use Rattle.resin_program_grammar.specs.Trees as tree
-use Rattle.resin_program_grammar.specs.Names.{Name, Expression, Statements, Body, Link, Otherwise, Part, PartLink, ForHead, ForeachHead, Cases, CatchHead, Targets, NoArgument, FunctionParameters, ClassMembers, ConstantItems, Digits, Value}
-use Rattle.resin_program_grammar.specs.Combine.{Rule, Behind, ◌>>=◌, ◌>>◌, either, one_of, expects, wants, a_name, a_variable, opened, in_round, in_braces}
+use Rattle.resin_program_grammar.specs.Names.{Name, Expression, Statements, Body, Link, Otherwise, Part, PartLink, ForHead, ForeachHead, Cases}
+use Rattle.resin_program_grammar.specs.Names.{CatchHead, Targets, NoArgument, FunctionParameters, ClassMembers, ConstantItems, Digits, Value}
+use Rattle.resin_program_grammar.specs.Combine.{Rule, Behind, ◌>>=◌, ◌>>◌, either, one_of, expects}
+use Rattle.resin_program_grammar.specs.Combine.{wants, a_name, a_variable, opened, in_round, in_braces}
 use Rattle.resin_program_grammar.specs.Constants.{constant, items, digits}
 use Rattle.resin_program_grammar.specs.Plain.{begins_statement, for_head, foreach_head, catch_head, targets}
 use Rattle.resin_program_grammar.specs.Statements.{inside, statement, inner_statements, braces, body, link, otherwise, part, part_link, cases}
@@ -77,7 +79,8 @@ parameters = optional parameter (λ p. more_parameters (p ∷ [])) []
 -- `name(..) { s.. }`, behind `function`
 unfoldable pub function : ℕ → Rule Function
 function at =
-    a_name >>= λ n. in_round FunctionParameters >>= λ ps. expects s.RightRound >> result_type >> braces false >>= λ ss. give (tree.function at n ps ss)
+    a_name >>= λ n. in_round FunctionParameters >>= λ ps. expects s.RightRound >> result_type >> braces false >>= λ ss.
+    give (tree.function at n ps ss)
 
 -- ---- classes
 

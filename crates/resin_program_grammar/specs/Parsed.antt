@@ -55,7 +55,8 @@ told end tokens lexical (Stop rest) = Err (fault.Syntax (place_of end rest))
 told end tokens lexical (Deep rest) = Err (fault.TooDeep (place_of end (drop (length tokens - length rest - 1) tokens)))
 
 abbrev pub parsed_front : List ℕ → List Token → Option ℕ → Result Program ParseFault
-parsed_front src tokens lexical = told (unwrap_or lexical (length src)) tokens lexical (under (line_of_token src) 200 (program (line_of_token src)) tokens)
+parsed_front src tokens lexical =
+    told (unwrap_or lexical (length src)) tokens lexical (under (line_of_token src) 200 (program (line_of_token src)) tokens)
 
 -- what a source text is read as
 unfoldable pub parsed : List ℕ → Result Program ParseFault

@@ -21,7 +21,8 @@ use Rattle.resin_program_grammar.specs.Leads.{plain_of, compound_of, inline_of}
 use Rattle.resin_program_grammar.specs.Start.{begins, behind_first, optional}
 use Rattle.resin_program_grammar.specs.Trees as tree
 use Rattle.resin_program_grammar.specs.Names.{Targets, NoArgument}
-use Rattle.resin_program_grammar.specs.Combine.{Rule, Behind, ◌>>=◌, ◌>>◌, either, expects, wants, a_name, a_variable, opened, in_round, expression, target}
+use Rattle.resin_program_grammar.specs.Combine.{Rule, Behind, ◌>>=◌, ◌>>◌, either, expects, wants}
+use Rattle.resin_program_grammar.specs.Combine.{a_name, a_variable, opened, in_round, expression, target}
 
 -- ---- lists
 

@@ -39,8 +39,10 @@ use Rattle.resin_program_grammar.specs.Words.{is_word}
 use Rattle.resin_program_grammar.specs.Leads.{plain_of, compound_of, inline_of}
 use Rattle.resin_program_grammar.specs.Plain.{begins_statement, expression_statement, plain_statement, case_test}
 use Rattle.resin_program_grammar.specs.Trees as tree
-use Rattle.resin_program_grammar.specs.Names.{Expression, Statements, Body, Link, Otherwise, Part, PartLink, ForHead, ForeachHead, Cases, CatchHead, Targets, NoArgument}
-use Rattle.resin_program_grammar.specs.Combine.{Rule, Behind, ◌>>=◌, ◌>>◌, either, one_of, or_else, expects, wants, a_name, a_variable, no_token, opened, in_round, in_braces, condition, expression}
+use Rattle.resin_program_grammar.specs.Names.{Expression, Statements, Body, Link, Otherwise, Part, PartLink}
+use Rattle.resin_program_grammar.specs.Names.{ForHead, ForeachHead, Cases, CatchHead, Targets, NoArgument}
+use Rattle.resin_program_grammar.specs.Combine.{Rule, Behind, ◌>>=◌, ◌>>◌, either, one_of, or_else, expects, wants, a_name}
+use Rattle.resin_program_grammar.specs.Combine.{a_variable, no_token, opened, in_round, in_braces, condition, expression}
 
 -- ---- statements with others in them, behind their first token
 
@@ -144,7 +146,8 @@ module _ (line : Token → ℕ) where
 
   unfoldable pub foreach_form : Around → ℕ → Rule (Stmt × Left)
   foreach_form a at =
-      in_round ForeachHead >>= λ h. body_follows (looping a) >>= loop_body w.EndForeach >>= λ body. give (tree.loop at (loop.Foreach h.0 h.1 h.2 body.0), body.1)
+      in_round ForeachHead >>= λ h. body_follows (looping a) >>= loop_body w.EndForeach >>= λ body.
+      give (tree.loop at (loop.Foreach h.0 h.1 h.2 body.0), body.1)
 
   -- ---- `if` in the form with `:`
 

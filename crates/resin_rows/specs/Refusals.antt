@@ -4,7 +4,8 @@ use Rattle.std.specs.List.{list_any}
 use Rattle.resin_base.specs.declared.cell.Column.{Column}
 use Rattle.resin_base.specs.declared.stored.StoredCell.{StoredCell}
 use Rattle.resin_sql.specs.declared.fault.SqlRefusal.{SqlRefusal}
-use Rattle.resin_sql.specs.declared.fault.SqlRefusal.TheVariants.{TableExists, SameTable, NoTable, NoColumn, DuplicateColumn, WrongCount, WrongKind, Full}
+use Rattle.resin_sql.specs.declared.fault.SqlRefusal.TheVariants.{TableExists, SameTable, NoTable, NoColumn}
+use Rattle.resin_sql.specs.declared.fault.SqlRefusal.TheVariants.{DuplicateColumn, WrongCount, WrongKind, Full}
 use Rattle.resin_rows.specs.declared.columns.Place.{Place}
 use Rattle.resin_rows.specs.Columns.{found, is_repeated}
 use Rattle.resin_rows.specs.Cells.{fits}

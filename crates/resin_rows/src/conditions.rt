@@ -4,7 +4,8 @@ ghost use Rattle.std.specs.Prelude.{◌≡◌, ◌&&◌, ◌||◌, drop, map};
 ghost use Rattle.resin_rows.specs.declared.columns.Place.{Place};
 ghost use Rattle.resin_rows.specs.Cells.{meets, meets_null, value_at};
 ghost use Rattle.resin_rows.specs.Columns.{found};
-ghost use Rattle.resin_rows.specs.Conditions.{front_value, place_meets, test_holds, holds, all_hold, any_holds, test_cause, condition_cause, parts_cause, where_holds, where_cause};
+ghost use Rattle.resin_rows.specs.Conditions.{front_value, place_meets, test_holds, holds, all_hold, any_holds};
+ghost use Rattle.resin_rows.specs.Conditions.{test_cause, condition_cause, parts_cause, where_holds, where_cause};
 
 use crate::cells::{is_null_or_none, meets_or_null};
 use crate::columns::found;

@@ -1,7 +1,10 @@
 -- The names of script faults and of the classes that the runtime throws (this project).
 use Rattle.std.specs.Prelude.{ℕ, List, codes}
 use Rattle.resin_scalar.specs.declared.faults.ScriptFault.{ScriptFault}
-use Rattle.resin_scalar.specs.declared.faults.ScriptFault.TheVariants.{Syntax, TooDeep, FuelSpent, DepthSpent, IntegerOverflow, FloatNeeded, NotANumber, UndefinedFunction, UndefinedClass, UndefinedMethod, Redeclared, BadOperand, ObjectComparison, ArrayTooDeep, TextTooLong, ChannelInCheck, NotStorable, BadShadow, BadSession}
+use Rattle.resin_scalar.specs.declared.faults.ScriptFault.TheVariants.{Syntax, TooDeep, FuelSpent, DepthSpent, IntegerOverflow, FloatNeeded}
+use Rattle.resin_scalar.specs.declared.faults.ScriptFault.TheVariants.{NotANumber, UndefinedFunction, UndefinedClass, UndefinedMethod}
+use Rattle.resin_scalar.specs.declared.faults.ScriptFault.TheVariants.{Redeclared, BadOperand, ObjectComparison, ArrayTooDeep}
+use Rattle.resin_scalar.specs.declared.faults.ScriptFault.TheVariants.{TextTooLong, ChannelInCheck, NotStorable, BadShadow, BadSession}
 use Rattle.resin_scalar.specs.declared.faults.ErrorKind.{ErrorKind}
 use Rattle.resin_scalar.specs.declared.faults.ErrorKind.TheVariants.{Plain, Arithmetic, DivisionByZero, «Type» as TypeKind, ArgumentCount, Value}
 use Rattle.resin_scalar.specs.declared.scalar.NumFault.{NumFault}

@@ -35,7 +35,9 @@ lower b = if nat_le 65 b && nat_le b 90 then b + 32 else b
 
 -- the value of a digit of a base up to 16, or 99
 abbrev pub digit : ℕ → ℕ
-digit b = if is_digit b then b - 48 else (if nat_le 97 b && nat_le b 102 then (b - 97) + 10 else (if nat_le 65 b && nat_le b 70 then (b - 65) + 10 else 99))
+digit b =
+    if is_digit b then b - 48 else
+    (if nat_le 97 b && nat_le b 102 then (b - 97) + 10 else (if nat_le 65 b && nat_le b 70 then (b - 65) + 10 else 99))
 
 abbrev pub is_octal : ℕ → Bool
 is_octal b = nat_lt (digit b) 8

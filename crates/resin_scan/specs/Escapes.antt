@@ -1,5 +1,6 @@
 -- What the bytes between quotes stand for, from the PHP manual.
-use Rattle.std.specs.Prelude.{◌≡◌, ◌<◌, ◌≤◌, ℕ, zero, suc, ◌+◌, ◌-◌, ◌*◌, ◌/◌, ◌%◌, Bool, true, false, ◌&&◌, ◌||◌, ◌⊎◌, ◌==◌, nat_lt, List, [], ◌∷◌, ◌++◌, length, take, drop, min, Option, Some, None, is_some, if◌then◌else◌}
+use Rattle.std.specs.Prelude.{◌≡◌, ◌<◌, ◌≤◌, ℕ, zero, suc, ◌+◌, ◌-◌, ◌*◌, ◌/◌, ◌%◌, Bool, true, false, ◌&&◌, ◌||◌, ◌⊎◌, ◌==◌, nat_lt}
+use Rattle.std.specs.Prelude.{List, [], ◌∷◌, ◌++◌, length, take, drop, min, Option, Some, None, is_some, if◌then◌else◌}
 use Rattle.std.specs.List.{prefix_len, fold}
 use Rattle.resin_scan.specs.Bytes.{byte, digit, is_octal, is_hexadecimal}
 use Rattle.resin_scan.specs.Lists.{NotBefore, Every}
@@ -16,7 +17,10 @@ code_point = numbers.code_point
 
 -- the byte that a letter behind a backslash stands for in double quotes: \n \r \t \v \e \f \\ \$ \"
 abbrev pub letter : ℕ → Option ℕ
-letter b = if b == 110 then Some 10 else (if b == 114 then Some 13 else (if b == 116 then Some 9 else (if b == 118 then Some 11 else (if b == 101 then Some 27 else (if b == 102 then Some 12 else (if b == 92 then Some 92 else (if b == 36 then Some 36 else (if b == 34 then Some 34 else None))))))))
+letter b =
+    if b == 110 then Some 10 else (if b == 114 then Some 13 else (if b == 116 then Some 9 else
+    (if b == 118 then Some 11 else (if b == 101 then Some 27 else (if b == 102 then Some 12 else
+    (if b == 92 then Some 92 else (if b == 36 then Some 36 else (if b == 34 then Some 34 else None))))))))
 
 -- the value of digits, modulo 256
 abbrev pub byte_value : ℕ → List ℕ → ℕ
@@ -47,7 +51,9 @@ pub record IsRun (p : ℕ → Bool) (most : ℕ) (ds rest : List ℕ) : Type 0 w
 
 -- whether a backslash before these bytes begins an escape of double quotes
 abbrev pub begins_escape : List ℕ → Bool
-begins_escape xs = is_octal (byte xs 0) || ((byte xs 0 == 120 && is_hexadecimal (byte xs 1)) || ((byte xs 0 == 117 && (byte xs 1 == 123 && is_some (code_point (drop 2 xs)))) || is_some (letter (byte xs 0))))
+begins_escape xs =
+    is_octal (byte xs 0) || ((byte xs 0 == 120 && is_hexadecimal (byte xs 1))
+    || ((byte xs 0 == 117 && (byte xs 1 == 123 && is_some (code_point (drop 2 xs)))) || is_some (letter (byte xs 0))))
 
 -- `Means q w rest ys`: in such quotes the bytes w stand for ys, where rest follows.
 pub data Means : Quoting → List ℕ → List ℕ → List ℕ → Type 0 where
@@ -66,7 +72,8 @@ pub data Means : Quoting → List ℕ → List ℕ → List ℕ → Type 0 where
 -- `Spells q xs ys`: the bytes xs between such quotes stand for the text ys, piece by piece.
 pub data Spells (q : Quoting) : List ℕ → List ℕ → Type 0 where
   done : Spells q [] []
-  more : {xs ys : List ℕ} → (w rest head tail : List ℕ) → xs ≡ w ++ rest → ys ≡ head ++ tail → Means q w rest head → Spells q rest tail → Spells q xs ys
+  more : {xs ys : List ℕ} → (w rest head tail : List ℕ) → xs ≡ w ++ rest → ys ≡ head ++ tail → Means q w rest head
+      → Spells q rest tail → Spells q xs ys
 
 -- The first piece, as a function of the text.
 abbrev pub byte_piece : ℕ → ℕ → Piece
@@ -84,11 +91,14 @@ letter_piece (Some b) = byte_piece 2 b
 unfoldable pub escape_piece : List ℕ → Piece
 escape_piece xs =
     if is_octal (byte xs 0) then (let n = min (prefix_len is_octal xs) 3 in byte_piece (1 + n) (byte_value 8 (take n xs))) else
-    (if byte xs 0 == 120 && is_hexadecimal (byte xs 1) then (let n = min (prefix_len is_hexadecimal (drop 1 xs)) 2 in byte_piece (2 + n) (byte_value 16 (take n (drop 1 xs)))) else
+    (if byte xs 0 == 120 && is_hexadecimal (byte xs 1)
+    then (let n = min (prefix_len is_hexadecimal (drop 1 xs)) 2 in byte_piece (2 + n) (byte_value 16 (take n (drop 1 xs)))) else
     (if byte xs 0 == 117 && byte xs 1 == 123 then point_piece (code_point (drop 2 xs)) else letter_piece (letter (byte xs 0))))
 
 abbrev pub first_piece : Quoting → List ℕ → Piece
-first_piece q.Single xs = if byte xs 0 == 92 then (if byte xs 1 == 92 || byte xs 1 == 39 then byte_piece 2 (byte xs 1) else byte_piece 1 92) else byte_piece 1 (byte xs 0)
+first_piece q.Single xs =
+    if byte xs 0 == 92 then (if byte xs 1 == 92 || byte xs 1 == 39 then byte_piece 2 (byte xs 1) else byte_piece 1 92)
+    else byte_piece 1 (byte xs 0)
 first_piece q.Double xs = if byte xs 0 == 92 then escape_piece (drop 1 xs) else byte_piece 1 (byte xs 0)
 
 -- what a text stands for, where so many bytes are to be passed over first

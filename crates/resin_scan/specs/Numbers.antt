@@ -1,5 +1,6 @@
 -- Integers in four bases, from the PHP manual, and code points in hexadecimal.
-use Rattle.std.specs.Prelude.{◌≡◌, ℕ, ◌+◌, ◌*◌, ◌^◌, ◌<◌, Bool, false, ◌&&◌, ◌||◌, ◌==◌, nat_lt, List, [], ◌∷◌, length, take, drop, Option, Some, None, if◌then◌else◌}
+use Rattle.std.specs.Prelude.{◌≡◌, ℕ, ◌+◌, ◌*◌, ◌^◌, ◌<◌, Bool, false, ◌&&◌, ◌||◌, ◌==◌, nat_lt}
+use Rattle.std.specs.Prelude.{List, [], ◌∷◌, length, take, drop, Option, Some, None, if◌then◌else◌}
 use Rattle.std.specs.List.{prefix_len, fold}
 use Rattle.resin_scan.specs.Bytes.{byte, digit, is_hexadecimal}
 use Rattle.resin_scan.specs.Lists.{NotBefore, Every}
@@ -15,7 +16,8 @@ IsNumber base ds n = (0 < length ds) × Every (λ d. nat_lt (digit d) base) ds �
 -- `IsInteger w rest n`: w is an integer of value n where rest follows. A point behind decimal or octal digits makes a
 -- float form, which is no integer.
 pub data IsInteger : List ℕ → List ℕ → ℕ → Type 0 where
-  decimal : {d : ℕ} {ds rest : List ℕ} {n : ℕ} → (d == 48) ≡ false → IsNumber 10 (d ∷ ds) n → NotBefore (λ b. b == 46) rest → IsInteger (d ∷ ds) rest n
+  decimal : {d : ℕ} {ds rest : List ℕ} {n : ℕ} → (d == 48) ≡ false → IsNumber 10 (d ∷ ds) n → NotBefore (λ b. b == 46) rest
+      → IsInteger (d ∷ ds) rest n
   octal : {ds rest : List ℕ} {n : ℕ} → IsNumber 8 (48 ∷ ds) n → NotBefore (λ b. b == 46) rest → IsInteger (48 ∷ ds) rest n
   hexadecimal : {ds rest : List ℕ} {n : ℕ} → IsNumber 16 ds n → IsInteger (48 ∷ 120 ∷ ds) rest n
   binary : {ds rest : List ℕ} {n : ℕ} → IsNumber 2 ds n → IsInteger (48 ∷ 98 ∷ ds) rest n
@@ -43,7 +45,10 @@ is_prefixed xs = byte xs 0 == 48 && (byte xs 1 == 120 || byte xs 1 == 98)
 
 -- an integer literal as a number below 2 ^ 63
 abbrev pub integer : List ℕ → Option ℕ
-integer xs = if byte xs 0 == 48 then (if byte xs 1 == 120 then digits 16 (2 ^ 63) (drop 2 xs) else (if byte xs 1 == 98 then digits 2 (2 ^ 63) (drop 2 xs) else digits 8 (2 ^ 63) xs)) else digits 10 (2 ^ 63) xs
+integer xs =
+    if byte xs 0 == 48 then (if byte xs 1 == 120 then digits 16 (2 ^ 63) (drop 2 xs) else
+    (if byte xs 1 == 98 then digits 2 (2 ^ 63) (drop 2 xs) else digits 8 (2 ^ 63) xs))
+    else digits 10 (2 ^ 63) xs
 
 -- a number and how many digits it has
 abbrev pub with_len : ℕ → Option ℕ → Option (ℕ × ℕ)

@@ -11,7 +11,9 @@ is_echo_tag xs = byte xs 0 == 60 && (byte xs 1 == 63 && byte xs 2 == 61)
 
 -- `<?php` in front, in any case, and a blank or the end of the text behind it
 abbrev pub is_php_tag : List ℕ → Bool
-is_php_tag xs = byte xs 0 == 60 && (byte xs 1 == 63 && (lower (byte xs 2) == 112 && (lower (byte xs 3) == 104 && (lower (byte xs 4) == 112 && (is_blank (byte xs 5) || length xs == 5)))))
+is_php_tag xs =
+    byte xs 0 == 60 && (byte xs 1 == 63 && (lower (byte xs 2) == 112 && (lower (byte xs 3) == 104 && (lower (byte xs 4) == 112
+    && (is_blank (byte xs 5) || length xs == 5)))))
 
 -- the length of the end of a line in front: a CRLF, a CR or an LF
 abbrev pub newline_len : List ℕ → ℕ
@@ -33,7 +35,9 @@ stops stop.Tag xs = is_echo_tag xs || is_php_tag xs
 stops stop.Line xs = byte xs 0 == 10 || (byte xs 0 == 13 || (byte xs 0 == 63 && byte xs 1 == 62))
 stops stop.Comment xs = byte xs 0 == 42 && byte xs 1 == 47
 stops stop.Single xs = byte xs 0 == 39
-stops stop.Part xs = byte xs 0 == 34 || ((byte xs 0 == 36 && (begins_name (byte xs 1) || byte xs 1 == 123)) || ((byte xs 0 == 123 && byte xs 1 == 36) || is_broken xs))
+stops stop.Part xs =
+    byte xs 0 == 34 || ((byte xs 0 == 36 && (begins_name (byte xs 1) || byte xs 1 == 123))
+    || ((byte xs 0 == 123 && byte xs 1 == 36) || is_broken xs))
 
 -- a byte that takes the next one along: the backslash in quotes
 abbrev pub escapes : Stop → ℕ → Bool
@@ -49,7 +53,8 @@ pub data Stretch (s : Stop) : List ℕ → List ℕ → Type 0 where
   at_end : Stretch s [] []
   at_stop : {b : ℕ} {rest : List ℕ} → stops s (b ∷ rest) ≡ true → Stretch s [] (b ∷ rest)
   plain : {b : ℕ} {body rest : List ℕ} → stops s (b ∷ body ++ rest) ≡ false → escapes s b ≡ false → Stretch s body rest → Stretch s (b ∷ body) rest
-  escape : {b c : ℕ} {body rest : List ℕ} → stops s (b ∷ c ∷ body ++ rest) ≡ false → escapes s b ≡ true → Stretch s body rest → Stretch s (b ∷ c ∷ body) rest
+  escape : {b c : ℕ} {body rest : List ℕ} → stops s (b ∷ c ∷ body ++ rest) ≡ false → escapes s b ≡ true → Stretch s body rest
+      → Stretch s (b ∷ c ∷ body) rest
   cut_off : {b : ℕ} → stops s (b ∷ []) ≡ false → escapes s b ≡ true → Stretch s (b ∷ []) []
 
 -- how many bytes stand before the first place to stop, where a backslash stands before or not

@@ -19,4 +19,6 @@ spells (c ∷ cs) (b ∷ bs) = (lower b == c) && spells cs bs
 
 -- the cast that a word names, in any case
 unfoldable pub cast_of : List ℕ → Option Cast
-cast_of xs = if spells (codes "int") xs then Some c.Int else (if spells (codes "string") xs then Some c.Text else (if spells (codes "bool") xs then Some c.Bool else None))
+cast_of xs =
+    if spells (codes "int") xs then Some c.Int else
+    (if spells (codes "string") xs then Some c.Text else (if spells (codes "bool") xs then Some c.Bool else None))

@@ -1,5 +1,6 @@
 -- Reading a session text from its front.
-use Rattle.std.specs.Prelude.{ℕ, zero, suc, Bool, nat_le, nat_eq, ℤ, pos, negsuc, List, [], ◌∷◌, ◌++◌, length, take, drop, Option, Some, None, is_none, option_map, if◌then◌else◌}
+use Rattle.std.specs.Prelude.{ℕ, zero, suc, Bool, nat_le, nat_eq, ℤ, pos, negsuc}
+use Rattle.std.specs.Prelude.{List, [], ◌∷◌, ◌++◌, length, take, drop, Option, Some, None, is_none, option_map, if◌then◌else◌}
 use Rattle.std.specs.List.{list_all, position}
 use Rattle.std.specs.Cmp.Lexicographic.{pointwise}
 use Rattle.resin_value.specs.Under.bytes.Canonical.{canonical_integer}

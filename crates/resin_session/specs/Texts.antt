@@ -46,7 +46,9 @@ head_text kind key len = kind ∷ 32 ∷ decimal (length key) ++ (32 ∷ decimal
 
 -- an entry: what stands before its value, the value, and a newline. No bytes but those of the value carry labels
 abbrev pub entry_text : Key × Tree → Text
-entry_text e = carrying no_labels (head_text (letter e.1) (key_text e.0) (length (value_text e.1))) ++ (value_text e.1 ++ carrying no_labels (10 ∷ []))
+entry_text e =
+    carrying no_labels (head_text (letter e.1) (key_text e.0) (length (value_text e.1)))
+    ++ (value_text e.1 ++ carrying no_labels (10 ∷ []))
 
 -- the entries in their order
 abbrev pub session_text : EntryList → Text

@@ -15,9 +15,9 @@ use std::alloc::{AllocError, Global};
 /// - `s` of a text or `i` of an integer, a space, the length of the key, a space, the length of the value, a newline,
 /// - the key, the value, a newline;
 ///
-/// lengths in bytes, as decimals without a leading zero, integers as canonical decimals in 64 bits, and each key once. Only the bytes of values may carry
-/// labels, and those of an integer all carry the same. A key that is a canonical decimal in 64 bits is an integer key. The next key of the array is one
-/// more than its largest integer key. Reading takes time in proportion to the text.
+/// lengths in bytes, as decimals without a leading zero, integers as canonical decimals in 64 bits, and each key once. Only the bytes of
+/// values may carry labels, and those of an integer all carry the same. A key that is a canonical decimal in 64 bits is an integer key. The
+/// next key of the array is one more than its largest integer key. Reading takes time in proportion to the text.
 pub fn read_session(alloc: Global, text: &LText) -> Result<Option<Arr>, AllocError>
     ensures kept { IfOk result (λ array. KeepsArray text.now array) }
     ensures read { IfOk result (λ array. array ≡ spec.session text.now) }

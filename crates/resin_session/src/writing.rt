@@ -149,8 +149,8 @@ fn entries_text(alloc: Global, array: &Arr) -> Result<LText, TextFault>
     Ok(out.finish()?)
 }
 
-/// The session text of an array: what `read_session` gives the entries of the array back from, in their order. `NotStorable` comes exactly where a value is
-/// neither an integer nor a text, `TooLong` exactly where all are and the text would pass 16,777,216 bytes.
+/// The session text of an array: what `read_session` gives the entries of the array back from, in their order. `NotStorable` comes exactly
+/// where a value is neither an integer nor a text, `TooLong` exactly where all are and the text would pass 16,777,216 bytes.
 pub fn write_session(alloc: Global, array: &Arr) -> Result<LText, SessionFault>
     ensures { GivesSession array.now.entries result }
 {

@@ -6,9 +6,9 @@
 //! - `write long|LENGTH|ITEM..`: the same as `write` of an array with such a value and the items, of which the length of its text is printed;
 //! - `many|COUNT`: how long the text of an array with so many integers, 0, 1 and so on, is, and how many entries are read from it.
 //!
-//! An item `KEY=VALUE` puts a value at the key that a text counts as, an item `!KEY` takes one out. A value is `i` and an integer, `s` and a text, `null`,
-//! `true`, `array` (an empty one) or `object`. In texts `\n`, `\\` and `\xhh` stand for a byte; `<12>` lets the bytes behind it carry the policies 1 and 2 alone,
-//! `<>` none, and the set of an integer is that of its first byte. In answers a key that is a text stands between `'`.
+//! An item `KEY=VALUE` puts a value at the key that a text counts as, an item `!KEY` takes one out. A value is `i` and an integer, `s` and a text,
+//! `null`, `true`, `array` (an empty one) or `object`. In texts `\n`, `\\` and `\xhh` stand for a byte; `<12>` lets the bytes behind it carry the
+//! policies 1 and 2 alone, `<>` none, and the set of an integer is that of its first byte. In answers a key that is a text stands between `'`.
 //!
 //! The answers were worked out by a program in Python from the format alone.
 #![tactic(auto)]

@@ -1,5 +1,5 @@
--- Shadow texts: the policies of a text's bytes, as they are kept beside the text (this project). There are two versions; the first writes the policies of
--- each run with the run, the second writes each set once. Both are written here; only the second is written by the runtime.
+-- Shadow texts: the policies of a text's bytes, as they are kept beside the text (this project). There are two versions; the first writes
+-- the policies of each run with the run, the second writes each set once. Both are written here; only the second is written by the runtime.
 use Rattle.std.specs.Prelude.{◌≡◌, ◌⊎◌, ℕ, ◌+◌, Bool, ◌==◌, List, [], ◌∷◌, ◌++◌, length, map, codes, decimal, if◌then◌else◌}
 use Rattle.std.specs.List.{flat_map, join_with_byte, position_or_len, list_any}
 use Rattle.std.specs.Str.{bytes_eq}

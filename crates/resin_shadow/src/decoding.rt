@@ -14,8 +14,8 @@ use resin_bytes::Bytes;
 use resin_frozen::{Rest, Stop};
 use std::alloc::{AllocError, Global};
 
-/// The policies of the bytes of a text that has `len` of them, by its shadow text of either version. `None` exactly where the shadow isn't one of such a text:
-/// also where it is written in another way than the one there is. It is read in one pass, and written again to see that it is that one.
+/// The policies of the bytes of a text that has `len` of them, by its shadow text of either version. `None` exactly where the shadow isn't one of
+/// such a text: also where it is written in another way than the one there is. It is read in one pass, and written again to see that it is that one.
 pub fn decode(alloc: Global, len: u64, shadow: &[u8]) -> Result<Option<FrozenRuns>, AllocError>
     ensures { IfOk result (λ found. Decodes len shadow.now found) }
 {

@@ -12,8 +12,8 @@ use itoa::Buffer;
 use resin_bytes::Bytes;
 use std::alloc::{AllocError, Global};
 
-/// The shadow text of the policies of a text's bytes, in its second version, which is the one that is written. It is empty where no byte carries a policy.
-/// It is made in one pass over the runs.
+/// The shadow text of the policies of a text's bytes, in its second version, which is the one that is written. It is empty where no byte
+/// carries a policy. It is made in one pass over the runs.
 pub fn encode(alloc: Global, m: &FrozenRuns) -> Result<Bytes, AllocError>
     ensures { IfOk result (λ text. text ≡ written2 m.now) }
 {

@@ -1,5 +1,5 @@
-//! Shadow texts: which policies the bytes of a stored text carry, as a text that is kept beside it. It is written in one way, and a text that is off that way
-//! by a byte is refused.
+//! Shadow texts: which policies the bytes of a stored text carry, as a text that is kept beside it. It is written in one way, and a text
+//! that is off that way by a byte is refused.
 //!
 //! Contracts see `FrozenRuns` as a list with a set of policy texts for each byte (`specs/Marks.antt`); policy texts are those of `resin_frozen`.
 //! `specs/Shadows.antt` has the two versions of the text: `encode` writes the second, and `decode` reads both, exactly where the text spells sets

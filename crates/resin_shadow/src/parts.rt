@@ -26,8 +26,8 @@ pub struct Parts {
 }
 
 impl FrozenRuns {
-    /// The bytes of runs, by how many each has and by the place of their set in `sets`, a list of texts. A run whose place no list has is empty. More bytes than
-    /// a number of 64 bits counts find no memory. It works on each list once, however many runs have it.
+    /// The bytes of runs, by how many each has and by the place of their set in `sets`, a list of texts. A run whose place no list has is
+    /// empty. More bytes than a number of 64 bits counts find no memory. It works on each list once, however many runs have it.
     pub fn from_parts(
         alloc: Global,
         sets: &[FrozenList],
@@ -96,7 +96,8 @@ fn push_placed(table: &mut Table, kinds: &[Kind], len: u64, place: usize) -> Res
     ensures table { IsTable table.new }
     ensures sets { table.new.sets.keys ≡ table.old.sets.keys }
     ensures texts { table.new.texts.keys ≡ table.old.texts.keys }
-    ensures marks { OnOk result (marks_of table.new.runs.items ≡ marks_of table.old.runs.items ++ run_spelled (map (λ k. k.set) kinds.now) (len, place)) }
+    ensures marks { OnOk result (marks_of table.new.runs.items
+        ≡ marks_of table.old.runs.items ++ run_spelled (map (λ k. k.set) kinds.now) (len, place)) }
 {
     let Some(kind) = kinds.get(place) else {
         return Ok(());

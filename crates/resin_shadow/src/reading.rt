@@ -147,7 +147,8 @@ pub(crate) fn read_runs_first(
 ) -> Result<(), Stop>
     requires { IsTable table.old }
     ensures table { IsTable table.new }
-    ensures reads { Turns (times (run_step (spec.run_set1 policies.now)) count (marks_of table.old.runs.items) rest.old) result (marks_of table.new.runs.items) rest.new }
+    ensures reads { Turns (times (run_step (spec.run_set1 policies.now)) count (marks_of table.old.runs.items) rest.old)
+        result (marks_of table.new.runs.items) rest.new }
 {
     for _i in 0..count {
         read_run_first(alloc, rest, table, policies)?;
@@ -165,7 +166,8 @@ fn read_run_first(
 ) -> Result<(), Stop>
     requires { IsTable table.old }
     ensures table { IsTable table.new }
-    ensures reads { Turns (run_step (spec.run_set1 policies.now) (marks_of table.old.runs.items) rest.old) result (marks_of table.new.runs.items) rest.new }
+    ensures reads { Turns (run_step (spec.run_set1 policies.now) (marks_of table.old.runs.items) rest.old)
+        result (marks_of table.new.runs.items) rest.new }
 {
     let line = rest.until(b'\n')?;
     let (len, places) = parts(line)?;
@@ -182,7 +184,8 @@ fn push_first(
 ) -> Result<(), Stop>
     requires { IsTable table.old }
     ensures table { IsTable table.new }
-    ensures reads { Pushes (spec.pushed (marks_of table.old.runs.items) (spec.run_set1 policies.now) (len, option_copied places.entry)) result (marks_of table.new.runs.items) }
+    ensures reads { Pushes (spec.pushed (marks_of table.old.runs.items) (spec.run_set1 policies.now) (len, option_copied places.entry))
+        result (marks_of table.new.runs.items) }
 {
     let kind = match places {
         Some(places) => told(alloc, table, policies, places)?,
@@ -202,7 +205,8 @@ pub(crate) fn read_runs_second(
     requires table { IsTable table.old }
     requires kinds { Each (IsKindOf table.old) kinds.now }
     ensures table { IsTable table.new }
-    ensures reads { Turns (times (run_step (spec.run_set2 (map (λ k. k.set) kinds.now))) count (marks_of table.old.runs.items) rest.old) result (marks_of table.new.runs.items) rest.new }
+    ensures reads { Turns (times (run_step (spec.run_set2 (map (λ k. k.set) kinds.now))) count (marks_of table.old.runs.items) rest.old)
+        result (marks_of table.new.runs.items) rest.new }
 {
     let none = table.kind_of(&FrozenList::new(alloc))?;
     for _i in 0..count {
@@ -226,7 +230,8 @@ fn read_run_second(
     ensures table { IsTable table.new }
     ensures sets { table.new.sets.keys ≡ table.old.sets.keys }
     ensures texts { table.new.texts.keys ≡ table.old.texts.keys }
-    ensures reads { Turns (run_step (spec.run_set2 (map (λ k. k.set) kinds.now)) (marks_of table.old.runs.items) rest.old) result (marks_of table.new.runs.items) rest.new }
+    ensures reads { Turns (run_step (spec.run_set2 (map (λ k. k.set) kinds.now)) (marks_of table.old.runs.items) rest.old)
+        result (marks_of table.new.runs.items) rest.new }
 {
     let line = rest.until(b'\n')?;
     let (len, place) = parts(line)?;
@@ -248,7 +253,9 @@ fn push_second(
     ensures table { IsTable table.new }
     ensures sets { table.new.sets.keys ≡ table.old.sets.keys }
     ensures texts { table.new.texts.keys ≡ table.old.texts.keys }
-    ensures reads { Pushes (spec.pushed (marks_of table.old.runs.items) (spec.run_set2 (map (λ k. k.set) kinds.now)) (len, option_copied place.entry)) result (marks_of table.new.runs.items) }
+    ensures reads { Pushes
+        (spec.pushed (marks_of table.old.runs.items) (spec.run_set2 (map (λ k. k.set) kinds.now)) (len, option_copied place.entry))
+        result (marks_of table.new.runs.items) }
 {
     let Some(word) = place else {
         return push(table, len, none);

@@ -57,8 +57,8 @@ impl FrozenRuns {
         self.table.runs.as_slice()
     }
 
-    /// Puts `len` bytes with the set of these texts after the others. `len` must be positive, and so many bytes and those that are there together a number of
-    /// 64 bits. After want of memory the list is as before.
+    /// Puts `len` bytes with the set of these texts after the others. `len` must be positive, and so many bytes and those that are there
+    /// together a number of 64 bits. After want of memory the list is as before.
     pub fn push(&mut self, len: u64, set: &FrozenList) -> Result<(), AllocError>
         requires some { 0 < len }
         requires count { length self.old + len < 2 ^ 64 }
@@ -69,8 +69,8 @@ impl FrozenRuns {
         self.table.push_kind(len, &kind)
     }
 
-    /// Puts the bytes of others behind these, with their policies. The bytes of both must be a number of 64 bits. After want of memory some of the others may
-    /// stand behind these.
+    /// Puts the bytes of others behind these, with their policies. The bytes of both must be a number of 64 bits. After want of memory some
+    /// of the others may stand behind these.
     pub fn append(&mut self, more: &FrozenRuns) -> Result<(), AllocError>
         requires count { length self.old + length more.now < 2 ^ 64 }
         ensures { OnOk result (self.new ≡ self.old ++ more.now) }

@@ -1,5 +1,5 @@
-//! Freezes policies and reads policy texts, one a line, and prints the line with its answer behind ` = `. A line that begins with `#` is a heading and is
-//! printed as it is. Arguments are split by `|`:
+//! Freezes policies and reads policy texts, one a line, and prints the line with its answer behind ` = `. A line that begins with `#` is a
+//! heading and is printed as it is. Arguments are split by `|`:
 //!
 //! - `freeze|CLASS|NAME VALUE|NAME VALUE..`: the policy text of an object;
 //! - `thaw|TEXT`: the class and the fields of a policy text, and whether they freeze to the same text;
@@ -10,9 +10,9 @@
 //! - `off|LENGTH|SHADOW`: how many of the texts are read that come of it by changing, by dropping and by doubling one byte;
 //! - `many|COUNT|POLICIES|EACH`: how long the shadow text of so many runs is, how many runs there are, and how many are read again.
 //!
-//! A value is `null`, `true`, `false`, an integer, a text between `'`, the number of an object behind `#`, or `[ KEY: VALUE VALUE ]`; labels stand between
-//! braces, as in `'ab{1}c{}'` and `7{2}`. In bytes `\\s` stands for a space, `\\n` for a newline, `\\xhh` for the byte of two digits, and a
-//! backslash before another byte for that byte.
+//! A value is `null`, `true`, `false`, an integer, a text between `'`, the number of an object behind `#`, or `[ KEY: VALUE VALUE ]`;
+//! labels stand between braces, as in `'ab{1}c{}'` and `7{2}`. In bytes `\\s` stands for a space, `\\n` for a newline, `\\xhh` for the byte
+//! of two digits, and a backslash before another byte for that byte.
 //!
 //! The texts were worked out by PHP's `serialize` of an object with these public properties, or by hand from the format; those of shadow
 //! texts by another program, written from the format.

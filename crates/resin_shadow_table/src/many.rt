@@ -81,8 +81,8 @@ fn push_counts(
     }
 }
 
-/// Puts last how long the shadow text of so many runs of one byte is, that have so many of so many policies in turn, how many runs there are, and how many are
-/// read.
+/// Puts last how long the shadow text of so many runs of one byte is, that have so many of so many policies in turn, how many runs there
+/// are, and how many are read.
 pub fn push_many(alloc: Global, out: &mut String, row: &[&str]) -> Result<(), Stop> {
     let count = number_at(row, 0)?;
     let policies = policies(alloc, number_at(row, 1)?)?;

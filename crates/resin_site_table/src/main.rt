@@ -1,12 +1,14 @@
-//! Serves requests to small sites, one site a line. Fields stand between `|`, and `\n`, `\r` and `\0` stand for those bytes. `fuel N` at the front gives each request N ticks,
-//! instead of 100,000, and `fail N ..` lets the files' Nth calls fail. Then come the files, each a field with its name, and behind a blank its shadow text where it has
-//! one, and a field with its bytes; tables, each a field `table NAME COLUMN ..`, where `:INTEGER` may stand behind a column's name, and fields `row NAME CELL~CELL..`, a
-//! cell being `i` and an integer, `t` and a text, or else NULL; and requests, each a field with the method and the target, and behind a newline further lines of the head, the
+//! Serves requests to small sites, one site a line. Fields stand between `|`, and `\n`, `\r` and `\0` stand for those bytes. `fuel N` at
+//! the front gives each request N ticks, instead of 100,000, and `fail N ..` lets the files' Nth calls fail. Then come the files, each a
+//! field with its name, and behind a blank its shadow text where it has one, and a field with its bytes; tables, each a field `table NAME
+//! COLUMN ..`, where `:INTEGER` may stand behind a column's name, and fields `row NAME CELL~CELL..`, a cell being `i` and an integer, `t`
+//! and a text, or else NULL; and requests, each a field with the method and the target, and behind a newline further lines of the head, the
 //! empty one, and the body. A request is served when it is met, so that files behind it aren't there yet. `LOOK` and a path show what is
 //! kept there by then, and `PARSES` how many texts of scripts the site has read.
 //!
-//! A line is printed for each request: how it ended, its status, its keeper calls with the numbers of those that failed, the bytes of its response and the response, the denials,
-//! and the mail, where there are any; and for a request that is refused the status and the response. A field `show NAME` prints the rows of a table in the same way. A line that begins with `# ` is a heading and is printed as it is.
+//! A line is printed for each request: how it ended, its status, its keeper calls with the numbers of those that failed, the bytes of its
+//! response and the response, the denials, and the mail, where there are any; and for a request that is refused the status and the response.
+//! A field `show NAME` prints the rows of a table in the same way. A line that begins with `# ` is a heading and is printed as it is.
 //!
 //! The input, and the output, which was worked out by hand from the formats of requests and responses, are the table of the tests of a site.
 #![tactic(auto)]

@@ -145,7 +145,8 @@ bracketed A = gap >> any_of A false true >>= λ s. sign 41 >> give (s.0, true)
 
 -- a test, or a condition in brackets where there is room for them
 unfoldable pub begun : Tested → Bool → Rule (Ended Condition) → Atom
-begun C room inside free = next (λ t. (t.byte == 40 && room) || (is_letter t.byte && free)) (λ t. taken (either (t.byte == 40) inside (one_test C t.byte)))
+begun C room inside free =
+    next (λ t. (t.byte == 40 && room) || (is_letter t.byte && free)) (λ t. taken (either (t.byte == 40) inside (one_test C t.byte)))
 
 -- where so many brackets may still open in one another
 unfoldable pub atom : Tested → ℕ → Atom
@@ -155,6 +156,8 @@ atom C (suc room) = begun C true (bracketed (atom C room))
 -- a function value that reads a test, or a condition in brackets, where fewer brackets than the bound may still open
 pub record Nests (bound : ℕ) (pre : Global → MutBor (List Placed) → Naming → Bool → ℕ → Type 0)
     (post : Global → MutBor (List Placed) → Naming → Bool → ℕ → Result (Ended Condition) Fault → MutBor (List Placed) → Type 0) : Type 0 where
-  pub callable : (alloc : Global) (old : MutBor (List Placed)) (naming : Naming) (free : Bool) (room : ℕ) → room < bound → pre alloc old naming free room
-  pub reads : (alloc : Global) (old new : MutBor (List Placed)) (naming : Naming) (free : Bool) (room : ℕ) (r : Result (Ended Condition) Fault) → room < bound
+  pub callable : (alloc : Global) (old : MutBor (List Placed)) (naming : Naming) (free : Bool) (room : ℕ) → room < bound
+      → pre alloc old naming free room
+  pub reads : (alloc : Global) (old new : MutBor (List Placed)) (naming : Naming) (free : Bool) (room : ℕ)
+      (r : Result (Ended Condition) Fault) → room < bound
       → post alloc old naming free room r new → Reads (under (atom (tested_as naming) room free) old.now) r new.now

@@ -1,5 +1,6 @@
 -- What the literals of a statement carry of the text that it was read from.
-use Rattle.std.specs.Prelude.{◌≡◌, ℕ, ◌<◌, ◌≤◌, Bool, true, false, ◌&&◌, ◌==◌, List, [], ◌∷◌, ◌++◌, length, slice_range, Result, Ok, Err, if◌then◌else◌}
+use Rattle.std.specs.Prelude.{◌≡◌, ℕ, ◌<◌, ◌≤◌, Bool, true, false, ◌&&◌, ◌==◌}
+use Rattle.std.specs.Prelude.{List, [], ◌∷◌, ◌++◌, length, slice_range, Result, Ok, Err, if◌then◌else◌}
 use Rattle.resin_label.specs.Sets.{union}
 use Rattle.resin_lstr.specs.declared.limits.TheConstants.{LONGEST}
 use Rattle.resin_lstr.specs.Texts.{Text}
@@ -29,6 +30,7 @@ labelled d (l.Text span) = unquoted (slice_range d span.from span.to)
 
 -- what is put last of the text from `at` on, and where it goes on; or the whole is too long
 abbrev pub GivesPart : Result (Text × ℕ) TextFault → Text → Text → ℕ → ℕ → Type 0
-GivesPart (Ok (longer, next)) out d at to = (at < next) × (next ≤ to) × (longer ++ unquoted (slice_range d next to) ≡ out ++ unquoted (slice_range d at to))
+GivesPart (Ok (longer, next)) out d at to =
+    (at < next) × (next ≤ to) × (longer ++ unquoted (slice_range d next to) ≡ out ++ unquoted (slice_range d at to))
 GivesPart (Err TooLong) out d at to = LONGEST < length (out ++ unquoted (slice_range d at to))
 GivesPart (Err Memory) out d at to = Unit {0}

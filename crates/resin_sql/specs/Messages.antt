@@ -1,7 +1,8 @@
 -- What is told of a statement that has no answer, as the message of an SqlException (this project).
 use Rattle.std.specs.Prelude.{ℕ, List, ◌++◌, codes, decimal}
 use Rattle.resin_sql.specs.declared.fault.SqlRefusal.{SqlRefusal}
-use Rattle.resin_sql.specs.declared.fault.SqlRefusal.TheVariants.{TableExists, SameTable, NoTable, NoColumn, DuplicateColumn, WrongCount, WrongKind, Full}
+use Rattle.resin_sql.specs.declared.fault.SqlRefusal.TheVariants.{TableExists, SameTable, NoTable, NoColumn}
+use Rattle.resin_sql.specs.declared.fault.SqlRefusal.TheVariants.{DuplicateColumn, WrongCount, WrongKind, Full}
 
 abbrev pub message : SqlRefusal → List ℕ
 message TableExists = codes "table exists"

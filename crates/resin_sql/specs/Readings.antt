@@ -27,7 +27,8 @@ module _ {A : Type 0} (F : Rule A) (start : List ℕ → ℕ) where
   read_by bytes = told bytes (under F (placed 0 bytes))
 
 -- There is one answer to a text, but for want of memory: what it is read as.
-pub record HasOneReading {A : Type 0} (Answers : List ℕ → Result A SqlFault → Type 0) (read_as : List ℕ → Result A SqlFault) (bytes : List ℕ) : Type 0 where
+pub record HasOneReading {A : Type 0} (Answers : List ℕ → Result A SqlFault → Type 0) (read_as : List ℕ → Result A SqlFault)
+    (bytes : List ℕ) : Type 0 where
   pub answers : Answers bytes (read_as bytes)
   pub is_told : read_as bytes ≢ Err Memory
   pub only : (r : Result A SqlFault) → r ≢ Err Memory → Answers bytes r → r ≡ read_as bytes

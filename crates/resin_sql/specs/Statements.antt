@@ -43,7 +43,9 @@ unfoldable pub definitions : Rule (List Column)
 definitions = sign 40 >> definition [] >>= more_definitions >>= λ cs. sign 41 >> give cs
 
 unfoldable pub create : Rule Stmt
-create = word (codes "reate") >>= λ g. keyword g 116 (codes "able") >>= named >>= λ n. definitions >>= λ cs. give (s.Create (record { table = n.0; columns = cs }))
+create =
+    word (codes "reate") >>= λ g. keyword g 116 (codes "able") >>= named >>= λ n. definitions >>= λ cs.
+    give (s.Create (record { table = n.0; columns = cs }))
 
 -- ---- names and literals with commas between
 
@@ -100,7 +102,9 @@ unfoldable pub targets : Bool → Rule (Option (List (List ℕ)))
 targets free = next (λ t. t.byte == 40 || (lower t.byte == 118 && free)) (λ t. taken (either (t.byte == 40) listed unlisted))
 
 unfoldable pub insert : Rule Stmt
-insert = word (codes "nsert") >>= λ g. keyword g 105 (codes "nto") >>= named >>= λ n. targets n.1 >>= λ cs. rows >>= λ rs. give (s.Insert (record { table = n.0; columns = cs; rows = rs }))
+insert =
+    word (codes "nsert") >>= λ g. keyword g 105 (codes "nto") >>= named >>= λ n. targets n.1 >>= λ cs. rows >>= λ rs.
+    give (s.Insert (record { table = n.0; columns = cs; rows = rs }))
 
 -- ---- SELECT * FROM t  and  SELECT c, .. FROM t, with WHERE, ORDER BY and LIMIT
 
@@ -136,7 +140,9 @@ descending = word (codes "esc") >>= λ g. give (true, g)
 
 -- whether it is DESC
 unfoldable pub direction : Bool → Rule (Ended Bool)
-direction free = maybe (λ t. (lower t.byte == 97 || lower t.byte == 100) && free) (λ t. taken (either (lower t.byte == 97) ascending descending)) (false, free)
+direction free =
+    maybe (λ t. (lower t.byte == 97 || lower t.byte == 100) && free) (λ t.
+    taken (either (lower t.byte == 97) ascending descending)) (false, free)
 
 -- behind ORDER
 unfoldable pub order_column : Bool → Rule (Ended (Option Order))
@@ -183,7 +189,9 @@ unfoldable pub changes : Bool → Rule (Ended (List Change))
 changes free = change free [] >>= more_changes
 
 unfoldable pub update : Rule Stmt
-update = word (codes "pdate") >>= named >>= λ n. keyword n.1 115 (codes "et") >>= changes >>= λ cs. chosen name_from false cs.1 >>= λ w. give (s.Update (record { table = n.0; changes = cs.0; condition = w.0 }))
+update =
+    word (codes "pdate") >>= named >>= λ n. keyword n.1 115 (codes "et") >>= changes >>= λ cs. chosen name_from false cs.1 >>= λ w.
+    give (s.Update (record { table = n.0; changes = cs.0; condition = w.0 }))
 
 unfoldable pub delete : Rule Stmt
 delete = word (codes "elete") >>= source >>= λ n. chosen name_from false n.1 >>= λ w. give (s.Delete (record { table = n.0; condition = w.0 }))

@@ -3,7 +3,7 @@
 ghost use Rattle.std.specs.Prelude.{◌≡◌, ◌+◌, true, false, []};
 ghost use Rattle.resin_sql_words.specs.Forms.{under, never};
 ghost use Rattle.resin_sql.specs.Conditions as spec;
-ghost use Rattle.resin_sql.specs.Conditions.{Nests};
+ghost use Rattle.resin_sql.specs.Conditions.{Nests, tested_as};
 ghost use Rattle.resin_sql.specs.declared.tree.Condition.TheVariants.{All};
 ghost use Rattle.resin_form.specs.Reads.{Reads};
 ghost use Rattle.resin_form.specs.Reading.{Got};
@@ -208,7 +208,7 @@ fn tested_name(
     naming: Naming,
     first: u8,
 ) -> Result<(Bytes, bool), Fault>
-    ensures { Reads (under (spec.tested_as naming first) bytes.old) result bytes.new }
+    ensures { Reads (under (tested_as naming first) bytes.old) result bytes.new }
 {
     match naming {
         Naming::Alone => name_from(alloc, bytes, first),
@@ -224,7 +224,7 @@ fn read_test(
     naming: Naming,
     first: u8,
 ) -> Result<(Condition, bool), Fault>
-    ensures { Reads (under (spec.one_test (spec.tested_as naming) first) bytes.old) result bytes.new }
+    ensures { Reads (under (spec.one_test (tested_as naming) first) bytes.old) result bytes.new }
 {
     let (column, free) = tested_name(alloc, bytes, naming, first)?;
     match bytes.peek() {
@@ -273,7 +273,7 @@ fn no_bracket(
     naming: Naming,
     free: bool,
 ) -> Result<(Condition, bool), Fault>
-    ensures { Reads (under (spec.begun (spec.tested_as naming) false (never (All [], false)) free) bytes.old) result bytes.new }
+    ensures { Reads (under (spec.begun (tested_as naming) false (never (All [], false)) free) bytes.old) result bytes.new }
 {
     match bytes.peek() {
         Some(next) if is_letter(next.byte) && free => {
@@ -300,7 +300,7 @@ impl<
     /// A test, or a condition in brackets.
     fn one(&self, bytes: &mut ByteCursor<'_>, free: bool) -> Result<(Condition, bool), Fault>
         requires nests { Nests (self.now.room + 1) (F.pre self.now.atom) (F.post self.now.atom) }
-        ensures { Reads (under (spec.atom (spec.tested_as self.now.naming) self.now.room free) bytes.old) result bytes.new }
+        ensures { Reads (under (spec.atom (tested_as self.now.naming) self.now.room free) bytes.old) result bytes.new }
     {
         (self.atom)(self.alloc, bytes, self.naming, free, self.room)
     }
@@ -313,7 +313,7 @@ impl<
         done: Items<Condition>,
     ) -> Result<(Items<Condition>, bool), Fault>
         requires nests { Nests (self.now.room + 1) (F.pre self.now.atom) (F.post self.now.atom) }
-        ensures { Reads (under (spec.part (spec.atom (spec.tested_as self.now.naming) self.now.room) free done) bytes.old) result bytes.new }
+        ensures { Reads (under (spec.part (spec.atom (tested_as self.now.naming) self.now.room) free done) bytes.old) result bytes.new }
     {
         let (condition, after) = self.one(bytes, free)?;
         let mut longer = done;
@@ -328,7 +328,7 @@ impl<
         done: Items<Condition>,
     ) -> Result<(Items<Condition>, bool), Fault>
         requires nests { Nests (self.now.room + 1) (F.pre self.now.atom) (F.post self.now.atom) }
-        ensures { Reads (under (spec.and_part (spec.atom (spec.tested_as self.now.naming) self.now.room) done) bytes.old) result bytes.new }
+        ensures { Reads (under (spec.and_part (spec.atom (tested_as self.now.naming) self.now.room) done) bytes.old) result bytes.new }
     {
         let free = word(bytes, b"nd")?;
         self.part(bytes, free, done)
@@ -341,7 +341,7 @@ impl<
         after: bool,
     ) -> Result<(Items<Condition>, bool), Fault>
         requires nests { Nests (self.now.room + 1) (F.pre self.now.atom) (F.post self.now.atom) }
-        ensures { Reads (under (spec.more_parts (spec.atom (spec.tested_as self.now.naming) self.now.room) (first, after)) bytes.old) result bytes.new }
+        ensures { Reads (under (spec.more_parts (spec.atom (tested_as self.now.naming) self.now.room) (first, after)) bytes.old) result bytes.new }
     {
         let mut done = first;
         let mut free = after;
@@ -361,7 +361,7 @@ impl<
     #[tactic(auto, unfolding(crate::specs::Conditions::all_of))]
     fn all_of(&self, bytes: &mut ByteCursor<'_>, free: bool) -> Result<(Condition, bool), Fault>
         requires nests { Nests (self.now.room + 1) (F.pre self.now.atom) (F.post self.now.atom) }
-        ensures { Reads (under (spec.all_of (spec.atom (spec.tested_as self.now.naming) self.now.room) free) bytes.old) result bytes.new }
+        ensures { Reads (under (spec.all_of (spec.atom (tested_as self.now.naming) self.now.room) free) bytes.old) result bytes.new }
     {
         let (first, after) = self.part(bytes, free, Items::new(self.alloc))?;
         let (parts, ended) = self.more_parts(bytes, first, after)?;
@@ -376,7 +376,7 @@ impl<
         done: Items<Condition>,
     ) -> Result<(Items<Condition>, (bool, bool)), Fault>
         requires nests { Nests (self.now.room + 1) (F.pre self.now.atom) (F.post self.now.atom) }
-        ensures { Reads (under (spec.way (spec.atom (spec.tested_as self.now.naming) self.now.room) free done) bytes.old) result bytes.new }
+        ensures { Reads (under (spec.way (spec.atom (tested_as self.now.naming) self.now.room) free done) bytes.old) result bytes.new }
     {
         let (condition, after) = self.all_of(bytes, free)?;
         let mut longer = done;
@@ -393,7 +393,7 @@ impl<
         done: Items<Condition>,
     ) -> Result<(Items<Condition>, (bool, bool)), Fault>
         requires nests { Nests (self.now.room + 1) (F.pre self.now.atom) (F.post self.now.atom) }
-        ensures { Reads (under (spec.or_way (spec.atom (spec.tested_as self.now.naming) self.now.room) orders done) bytes.old) result bytes.new }
+        ensures { Reads (under (spec.or_way (spec.atom (tested_as self.now.naming) self.now.room) orders done) bytes.old) result bytes.new }
     {
         letters(bytes, b"r")?;
         let ordered = order_ending(bytes, orders)?;
@@ -413,7 +413,8 @@ impl<
         after: (bool, bool),
     ) -> Result<(Items<Condition>, (bool, bool)), Fault>
         requires nests { Nests (self.now.room + 1) (F.pre self.now.atom) (F.post self.now.atom) }
-        ensures { Reads (under (spec.more_ways (spec.atom (spec.tested_as self.now.naming) self.now.room) orders (first, after)) bytes.old) result bytes.new }
+        ensures { Reads (under (spec.more_ways (spec.atom (tested_as self.now.naming) self.now.room) orders (first, after)) bytes.old)
+            result bytes.new }
     {
         let mut done = first;
         let mut behind = after;
@@ -438,7 +439,7 @@ impl<
         free: bool,
     ) -> Result<(Condition, (bool, bool)), Fault>
         requires nests { Nests (self.now.room + 1) (F.pre self.now.atom) (F.post self.now.atom) }
-        ensures { Reads (under (spec.any_of (spec.atom (spec.tested_as self.now.naming) self.now.room) orders free) bytes.old) result bytes.new }
+        ensures { Reads (under (spec.any_of (spec.atom (tested_as self.now.naming) self.now.room) orders free) bytes.old) result bytes.new }
     {
         let (first, after) = self.way(bytes, free, Items::new(self.alloc))?;
         let (ways, behind) = self.more_ways(bytes, orders, first, after)?;
@@ -449,7 +450,7 @@ impl<
     #[tactic(auto, unfolding(crate::specs::Conditions::bracketed))]
     fn bracketed(&self, bytes: &mut ByteCursor<'_>) -> Result<(Condition, bool), Fault>
         requires nests { Nests (self.now.room + 1) (F.pre self.now.atom) (F.post self.now.atom) }
-        ensures { Reads (under (spec.bracketed (spec.atom (spec.tested_as self.now.naming) self.now.room)) bytes.old) result bytes.new }
+        ensures { Reads (under (spec.bracketed (spec.atom (tested_as self.now.naming) self.now.room)) bytes.old) result bytes.new }
     {
         gap(bytes);
         let (condition, _) = self.any_of(bytes, false, true)?;
@@ -461,7 +462,8 @@ impl<
     #[tactic(auto, unfolding(crate::specs::Conditions::begun))]
     fn begun(&self, bytes: &mut ByteCursor<'_>, free: bool) -> Result<(Condition, bool), Fault>
         requires nests { Nests (self.now.room + 1) (F.pre self.now.atom) (F.post self.now.atom) }
-        ensures { Reads (under (spec.begun (spec.tested_as self.now.naming) true (spec.bracketed (spec.atom (spec.tested_as self.now.naming) self.now.room)) free) bytes.old) result bytes.new }
+        ensures { Reads (under (spec.begun (tested_as self.now.naming) true
+            (spec.bracketed (spec.atom (tested_as self.now.naming) self.now.room)) free) bytes.old) result bytes.new }
     {
         match bytes.peek() {
             Some(next) if next.byte == b'(' => {
@@ -485,7 +487,7 @@ pub fn atom(
     free: bool,
     room: usize,
 ) -> Result<(Condition, bool), Fault>
-    ensures { Reads (under (spec.atom (spec.tested_as naming) room free) bytes.old) result bytes.new }
+    ensures { Reads (under (spec.atom (tested_as naming) room free) bytes.old) result bytes.new }
 {
     if room == 0 {
         no_bracket(alloc, bytes, naming, free)
@@ -500,8 +502,7 @@ pub fn atom(
     }
 }
 
-/// The condition behind WHERE, and what stands behind it: whether a word may follow, and whether the ORDER of a SELECT was
-/// read, which may stand there (`orders`).
+/// The condition behind WHERE, and then whether a word may follow, and whether the ORDER of a SELECT was read, which may stand there (`orders`).
 pub fn condition(
     alloc: Global,
     bytes: &mut ByteCursor<'_>,
@@ -509,7 +510,7 @@ pub fn condition(
     orders: bool,
     free: bool,
 ) -> Result<(Condition, (bool, bool)), Fault>
-    ensures { Reads (under (spec.any_of (spec.atom (spec.tested_as naming) 50) orders free) bytes.old) result bytes.new }
+    ensures { Reads (under (spec.any_of (spec.atom (tested_as naming) 50) orders free) bytes.old) result bytes.new }
 {
     Inner {
         alloc,

@@ -76,10 +76,9 @@ fn read_bytes(alloc: Global, text: &[u8]) -> Result<Stmt, SqlFault>
 /// The statement that a text is, by the grammar of this crate's page. The literals of the tree tell where they stand in the
 /// text, and [`literal_text`](crate::literal_text) gives their labelled bytes.
 ///
-/// `Bad` comes exactly where the text is no statement, with the offset of the first byte at which no continuation is one, or
-/// the length of a text that ends too early. A name of more than 64 bytes and a number beyond 64 bits are told by the offset of
-/// their first byte, before any later fault; a keyword in the place of a name by the byte behind it, since a longer word may
-/// be a name.
+/// `Bad` comes exactly where the text is no statement, with the offset of the first byte at which no continuation is one, or the length of
+/// a text that ends too early. A name of more than 64 bytes and a number beyond 64 bits are told by the offset of their first byte, before
+/// any later fault; a keyword in the place of a name by the byte behind it, since a longer word may be a name.
 pub fn read_sql(alloc: Global, text: &LText) -> Result<Stmt, SqlFault>
     ensures answers { Answers (bytes_of text.now) result }
     ensures found { (q : Stmt) → IsStatement (bytes_of text.now) q → (result ≡ Ok q) ⊎ (result ≡ Err Memory) }

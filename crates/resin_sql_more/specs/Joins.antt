@@ -1,5 +1,6 @@
 -- A join: the pairs of rows of two tables whose ON cells are equal and whose tests hold, by the first's row and then the second's.
-use Rattle.std.specs.Prelude.{ℕ, ◌+◌, ◌*◌, ◌-◌, ◌^◌, min, Bool, false, not, ◌&&◌, ◌||◌, List, ◌++◌, length, map, filter, flat_map, Option, Some, None, is_none, if◌then◌else◌}
+use Rattle.std.specs.Prelude.{ℕ, ◌+◌, ◌*◌, ◌-◌, ◌^◌, min, Bool, false, not, ◌&&◌, ◌||◌}
+use Rattle.std.specs.Prelude.{List, ◌++◌, length, map, filter, flat_map, Option, Some, None, is_none, if◌then◌else◌}
 use Rattle.std.specs.List.{list_any}
 use Rattle.std.specs.Str.{bytes_eq}
 use Rattle.resin_base.specs.declared.cell.Cell.{Cell}
@@ -126,7 +127,8 @@ join_end s vs left columns width firsts lasts = paid left (cost (length firsts) 
 
 abbrev pub join_over : JoinStmt → List StoredCell → ℕ → List Column → ℕ → Plan
 join_over s vs left columns width =
-    unless (join_cause s vs columns) (Ask (AskRows s.table) (λ firsts. Ask (AskRows s.joined) (λ lasts. Done (join_end s vs left columns width firsts lasts))))
+    unless (join_cause s vs columns)
+    (Ask (AskRows s.table) (λ firsts. Ask (AskRows s.joined) (λ lasts. Done (join_end s vs left columns width firsts lasts))))
 
 unfoldable pub join_rows : JoinStmt → List StoredCell → ℕ → List Column → List Column → Plan
 join_rows s vs left ts us = join_over s vs left (both_columns s ts us) (length ts)

@@ -1,6 +1,7 @@
--- What an item of a total makes of its cells, which are read and aren't NULL: a value without labels. The one set that it carries is merged of the distinct
--- sets of those cells' bytes and integers, in the order in which they first occur; COUNT(*) carries nothing.
-use Rattle.std.specs.Prelude.{ℕ, ℤ, pos, negsuc, ◌+ℤ◌, ◌^◌, nat_lt, Bool, List, [], ◌∷◌, ◌++◌, length, flat_map, Option, Some, None, Result, Ok, Err, if◌then◌else◌}
+-- What an item of a total makes of its cells, which are read and aren't NULL: a value without labels. The one set that it carries is merged
+-- of the distinct sets of those cells' bytes and integers, in the order in which they first occur; COUNT(*) carries nothing.
+use Rattle.std.specs.Prelude.{ℕ, ℤ, pos, negsuc, ◌+ℤ◌, ◌^◌, nat_lt, Bool}
+use Rattle.std.specs.Prelude.{List, [], ◌∷◌, ◌++◌, length, flat_map, Option, Some, None, Result, Ok, Err, if◌then◌else◌}
 use Rattle.resin_base.specs.declared.cell.Cell.{Cell}
 use Rattle.resin_base.specs.declared.cell.Cell.TheVariants as cell
 use Rattle.std.specs.Fmt.{signed_decimal}
@@ -23,8 +24,8 @@ sum_from n [] = Some n
 sum_from n (cell.Int x ∷ cells) = if fits (n +ℤ x) then sum_from (n +ℤ x) cells else None
 sum_from n (c ∷ cells) = sum_from n cells
 
--- the first of the cells that are least, or greatest: a later one stands for it only where it is less, or greater. Integers are compared as numbers, texts by
--- their bytes.
+-- the first of the cells that are least, or greatest: a later one stands for it only where it is less, or greater. Integers are compared as
+-- numbers, texts by their bytes.
 abbrev pub first_best : Comparison → Cell → List Cell → Cell
 first_best better c [] = c
 first_best better c (d ∷ cells) = first_best better (if meets better d c then d else c) cells

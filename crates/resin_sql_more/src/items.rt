@@ -104,8 +104,10 @@ fn push_first(
     first: &mut Vec<TotalItem>,
     item: &TotalItem,
 ) -> Result<(), AllocError>
-    ensures names { OnOk result (names.new ≡ (if is_among (spec.item_name item.now) names.old then names.old else names.old ++ spec.item_name item.now ∷ [])) }
-    ensures items { OnOk result (first.new.items ≡ (if is_among (spec.item_name item.now) names.old then first.old.items else first.old.items ++ item.now ∷ [])) }
+    ensures names { OnOk result (names.new
+        ≡ (if is_among (spec.item_name item.now) names.old then names.old else names.old ++ spec.item_name item.now ∷ [])) }
+    ensures items { OnOk result (first.new.items
+        ≡ (if is_among (spec.item_name item.now) names.old then first.old.items else first.old.items ++ item.now ∷ [])) }
 {
     let name = item_name(alloc, item)?;
     if !is_among(name.as_slice(), names.as_slice()) {

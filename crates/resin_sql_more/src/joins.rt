@@ -238,7 +238,8 @@ fn join_rows<T: Tables>(
     tables: &mut T,
     calls: &mut Calls,
 ) -> Result<MoreAnswer, SqlStop>
-    ensures { Ends (spec.join_rows statement.now values.now left firsts.now lasts.now) (keeping (T.stored tables.old) (T.faults tables.old) (T.answers tables.old) calls.old) result
+    ensures { Ends (spec.join_rows statement.now values.now left firsts.now lasts.now)
+        (keeping (T.stored tables.old) (T.faults tables.old) (T.answers tables.old) calls.old) result
         (keeping (T.stored tables.new) (T.faults tables.new) (T.answers tables.new) calls.new) }
 {
     let columns = both_columns(alloc, statement, firsts, lasts)?;
@@ -280,7 +281,8 @@ fn join_on<T: Tables>(
     tables: &mut T,
     calls: &mut Calls,
 ) -> Result<MoreAnswer, SqlStop>
-    ensures { Ends (spec.join_on statement.now values.now left firsts lasts) (keeping (T.stored tables.old) (T.faults tables.old) (T.answers tables.old) calls.old) result
+    ensures { Ends (spec.join_on statement.now values.now left firsts lasts)
+        (keeping (T.stored tables.old) (T.faults tables.old) (T.answers tables.old) calls.old) result
         (keeping (T.stored tables.new) (T.faults tables.new) (T.answers tables.new) calls.new) }
 {
     let Some(firsts) = firsts else {
@@ -316,7 +318,8 @@ fn carry_out<T: Tables>(
     tables: &mut T,
     calls: &mut Calls,
 ) -> Result<MoreAnswer, SqlStop>
-    ensures { Ends (spec.join_plan statement.now values.now left) (keeping (T.stored tables.old) (T.faults tables.old) (T.answers tables.old) calls.old) result
+    ensures { Ends (spec.join_plan statement.now values.now left)
+        (keeping (T.stored tables.old) (T.faults tables.old) (T.answers tables.old) calls.old) result
         (keeping (T.stored tables.new) (T.faults tables.new) (T.answers tables.new) calls.new) }
 {
     if is_same(statement) {
@@ -347,7 +350,8 @@ pub fn exec_join<T: Tables>(
     tables: &mut T,
     calls: &mut Calls,
 ) -> Result<MoreAnswer, SqlStop>
-    ensures plan { Ends (spec.join_plan statement.now cells.now left) (keeping (T.stored tables.old) (T.faults tables.old) (T.answers tables.old) calls.old) result
+    ensures plan { Ends (spec.join_plan statement.now cells.now left)
+        (keeping (T.stored tables.old) (T.faults tables.old) (T.answers tables.old) calls.old) result
         (keeping (T.stored tables.new) (T.faults tables.new) (T.answers tables.new) calls.new) }
     ensures cause { Blames result (keeping (T.stored tables.old) (T.faults tables.old) (T.answers tables.old) calls.old)
         (keeping (T.stored tables.new) (T.faults tables.new) (T.answers tables.new) calls.new) }

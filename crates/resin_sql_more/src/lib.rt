@@ -7,9 +7,10 @@
 //!   itself is refused before any call; every other refused join makes both `columns` calls, a refused total its one.
 //! - A join answers the pairs of rows, by the first table's row and then the second's, whose ON cells are equal and not NULL and whose tests hold,
 //!   cut by LIMIT. Each cell keeps its shadow, and is named as its column was written, `t.c`.
-//! - A total answers for each item the cells of its column in the chosen rows, in their order and without those that are NULL, and how many rows were chosen.
-//!   [`item_value`] is what SUM, MIN, MAX and GROUP_CONCAT make of them once they are read, without its labels.
-//! - What looking at the rows costs in ticks, |t| + |u| + |t| * |u| for a join and |t| for a total, is told; where it is more than is left, nothing is looked at.
+//! - A total answers for each item the cells of its column in the chosen rows, in their order and without those that are NULL, and how many
+//!   rows were chosen. [`item_value`] is what SUM, MIN, MAX and GROUP_CONCAT make of them once they are read, without its labels.
+//! - What looking at the rows costs in ticks, |t| + |u| + |t| * |u| for a join and |t| for a total, is told; where it is more than is left,
+//!   nothing is looked at.
 //!
 //! `specs/Joins.antt` and `specs/Totals.antt` say this, and `specs/Plans.antt` what it means that a run went along it.
 #![tactic(auto)]

@@ -68,7 +68,8 @@ fn push_pairs(
 ) -> Result<(), AllocError>
     ensures { OnOk result (map (spec.pair_at width (cells_of firsts.now) (cells_of lasts.now)) pairs.new.items
         ≡ map (spec.pair_at width (cells_of firsts.now) (cells_of lasts.now)) pairs.old.items
-        ++ filter (spec.pair_holds statement.now values.now columns.now) (map (beside width (row_at (cells_of firsts.now) at)) (cells_of lasts.now))) }
+        ++ filter (spec.pair_holds statement.now values.now columns.now)
+        (map (beside width (row_at (cells_of firsts.now) at)) (cells_of lasts.now))) }
 {
     for i in 0..lasts.len() {
         let cells = RowCells::beside(width, cells_at(firsts, at), cells_at(lasts, i));
@@ -121,7 +122,8 @@ pub(crate) fn limited_places(
     lasts: &[Row],
 ) -> Result<Vec<(usize, usize)>, AllocError>
     ensures { IfOk result (λ pairs. map (spec.pair_at width (cells_of firsts.now) (cells_of lasts.now)) pairs.items
-        ≡ limited statement.now.limit (filter (spec.pair_holds statement.now values.now columns.now) (spec.pairs width (cells_of firsts.now) (cells_of lasts.now)))) }
+        ≡ limited statement.now.limit
+        (filter (spec.pair_holds statement.now values.now columns.now) (spec.pairs width (cells_of firsts.now) (cells_of lasts.now)))) }
 {
     let mut pairs = chosen_places(alloc, statement, values, columns, width, firsts, lasts)?;
     limit_pairs(&mut pairs, statement.limit);
@@ -138,7 +140,8 @@ pub(crate) fn answered_pairs(
     lasts: &[Row],
     pairs: &[(usize, usize)],
 ) -> Result<StoredRows, AllocError>
-    ensures { IfOk result (λ rows. rows ≡ map (λ p. answered_row columns.now names.now (spec.pair_at width (cells_of firsts.now) (cells_of lasts.now) p)) pairs.now) }
+    ensures { IfOk result (λ rows. rows
+        ≡ map (λ p. answered_row columns.now names.now (spec.pair_at width (cells_of firsts.now) (cells_of lasts.now) p)) pairs.now) }
 {
     let mut rows = StoredRows::new(alloc);
     for pair in pairs {

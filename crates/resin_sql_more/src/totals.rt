@@ -27,7 +27,8 @@ fn push_item(
     rows: &[Row],
     places: &[usize],
 ) -> Result<(), AllocError>
-    ensures names { OnOk result (names.new ≡ (if is_among (spec.item_name item.now) names.old then names.old else names.old ++ spec.item_name item.now ∷ [])) }
+    ensures names { OnOk result (names.new
+        ≡ (if is_among (spec.item_name item.now) names.old then names.old else names.old ++ spec.item_name item.now ∷ [])) }
     ensures cells { OnOk result (cells.new ≡ (if is_among (spec.item_name item.now) names.old then cells.old
         else cells.old ++ spec.column_cells columns.now (map (row_at (cells_of rows.now)) places.now) (spec.item_column item.now) ∷ [])) }
 {
@@ -49,7 +50,9 @@ fn named_cells(
     places: &[usize],
 ) -> Result<(Names, StoredRows), AllocError>
     ensures names { IfOk result (λ r. r.0 ≡ map spec.item_name (spec.first_items items.now)) }
-    ensures cells { IfOk result (λ r. r.1 ≡ map (λ it. spec.column_cells columns.now (map (row_at (cells_of rows.now)) places.now) (spec.item_column it)) (spec.first_items items.now)) }
+    ensures cells { IfOk result (λ r. r.1
+        ≡ map (λ it. spec.column_cells columns.now (map (row_at (cells_of rows.now)) places.now) (spec.item_column it))
+        (spec.first_items items.now)) }
 {
     let mut names = Names::new(alloc);
     let mut cells = StoredRows::new(alloc);
@@ -125,7 +128,8 @@ fn total_rows<T: Tables>(
     tables: &mut T,
     calls: &mut Calls,
 ) -> Result<MoreAnswer, SqlStop>
-    ensures { Ends (spec.total_rows statement.now values.now left columns.now) (keeping (T.stored tables.old) (T.faults tables.old) (T.answers tables.old) calls.old) result
+    ensures { Ends (spec.total_rows statement.now values.now left columns.now)
+        (keeping (T.stored tables.old) (T.faults tables.old) (T.answers tables.old) calls.old) result
         (keeping (T.stored tables.new) (T.faults tables.new) (T.answers tables.new) calls.new) }
 {
     if let Some(cause) = total_cause(statement, values, columns) {
@@ -143,7 +147,8 @@ fn carry_out<T: Tables>(
     tables: &mut T,
     calls: &mut Calls,
 ) -> Result<MoreAnswer, SqlStop>
-    ensures { Ends (spec.total_plan statement.now values.now left) (keeping (T.stored tables.old) (T.faults tables.old) (T.answers tables.old) calls.old) result
+    ensures { Ends (spec.total_plan statement.now values.now left)
+        (keeping (T.stored tables.old) (T.faults tables.old) (T.answers tables.old) calls.old) result
         (keeping (T.stored tables.new) (T.faults tables.new) (T.answers tables.new) calls.new) }
 {
     let kept = table_columns(tables, calls, statement.table.as_slice())?;
@@ -170,7 +175,8 @@ pub fn exec_total<T: Tables>(
     tables: &mut T,
     calls: &mut Calls,
 ) -> Result<MoreAnswer, SqlStop>
-    ensures plan { Ends (spec.total_plan statement.now cells.now left) (keeping (T.stored tables.old) (T.faults tables.old) (T.answers tables.old) calls.old) result
+    ensures plan { Ends (spec.total_plan statement.now cells.now left)
+        (keeping (T.stored tables.old) (T.faults tables.old) (T.answers tables.old) calls.old) result
         (keeping (T.stored tables.new) (T.faults tables.new) (T.answers tables.new) calls.new) }
     ensures cause { Blames result (keeping (T.stored tables.old) (T.faults tables.old) (T.answers tables.old) calls.old)
         (keeping (T.stored tables.new) (T.faults tables.new) (T.answers tables.new) calls.new) }

@@ -5,8 +5,9 @@
 //! - `row CELL ..`: a row of that table, with cells as `N` for NULL, `5`, and `'abc` for a text.
 //! - any other field is a statement. The shadow of its Kth literal is the text `sK`; that of NULL is empty.
 //!
-//! The line that is printed has an answer for each statement: its names, its rows with the shadow of each cell behind `~`, what it cost and how many rows
-//! were chosen, and for a total behind `=` the value of each item, `?` where one of its cells isn't to be read; or why there is none. Behind `#` stand how many calls were made and the numbers of those that failed.
+//! The line that is printed has an answer for each statement: its names, its rows with the shadow of each cell behind `~`, what it cost and
+//! how many rows were chosen, and for a total behind `=` the value of each item, `?` where one of its cells isn't to be read; or why there
+//! is none. Behind `#` stand how many calls were made and the numbers of those that failed.
 //!
 //! The output was made by Python's sqlite3, and by the rules alone where SQLite means something else: `tests/joint/rows.py`.
 #![tactic(auto)]

@@ -43,11 +43,13 @@ begins_statement w =
 
 abbrev pub is_object_word : List ℕ → Bool
 is_object_word w =
-    spells (codes "table") w || spells (codes "integer") w || spells (codes "text") w || spells (codes "into") w || spells (codes "values") w || spells (codes "set") w
+    spells (codes "table") w || spells (codes "integer") w || spells (codes "text") w
+    || spells (codes "into") w || spells (codes "values") w || spells (codes "set") w
 
 abbrev pub is_clause_word : List ℕ → Bool
 is_clause_word w =
-    spells (codes "from") w || spells (codes "where") w || spells (codes "order") w || spells (codes "by") w || spells (codes "asc") w || spells (codes "desc") w || spells (codes "limit") w
+    spells (codes "from") w || spells (codes "where") w || spells (codes "order") w || spells (codes "by") w
+    || spells (codes "asc") w || spells (codes "desc") w || spells (codes "limit") w
 
 abbrev pub is_test_word : List ℕ → Bool
 is_test_word w =

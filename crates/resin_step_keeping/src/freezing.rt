@@ -18,8 +18,8 @@ use resin_step_parts::under::machine::{Machine, Stop};
 use resin_step_parts::under::scalar::ScriptFault;
 use std::alloc::{AllocError, Global};
 
-/// What is kept of the policies of a text: for each byte the set of the policy texts of its policies. NotStorable comes exactly where one of the policies has
-/// no policy text, as `resin_frozen::freeze` says it. Each policy, and each set of them, is worked on once.
+/// What is kept of the policies of a text: for each byte the set of the policy texts of its policies. NotStorable comes exactly where one
+/// of the policies has no policy text, as `resin_frozen::freeze` says it. Each policy, and each set of them, is worked on once.
 pub fn freeze_text(alloc: Global, m: &Machine, t: &LText) -> Result<FrozenRuns, Stop>
     ensures { Runs (freeze_text t.now) m.now result m.now }
 {

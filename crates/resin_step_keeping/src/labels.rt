@@ -32,7 +32,8 @@ pub(crate) fn distinct_labels(
     objects: &[u32],
     parts: &Parts,
 ) -> Result<Vec<PSet>, AllocError>
-    ensures { IfOk result (λ found. found.items ≡ distinct same (spelled_by (map (λ s. labels_at objects.now s.items) parts.now.sets.items) parts.now.runs.items)) }
+    ensures { IfOk result (λ found. found.items
+        ≡ distinct same (spelled_by (map (λ s. labels_at objects.now s.items) parts.now.sets.items) parts.now.runs.items)) }
 {
     let sets = label_sets(alloc, objects, &parts.sets)?;
     let met = distinct_sets(alloc, &sets, &parts.runs)?;

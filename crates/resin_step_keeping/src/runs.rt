@@ -42,7 +42,8 @@ fn push_run(
     run: &Run,
 ) -> Result<(), AllocError>
     ensures sets { OnOk result (sets.new.keys ≡ insert_key same sets.old.keys run.now.set) }
-    ensures runs { OnOk result ((place : ℕ) × (runs.new.items ≡ runs.old.items ++ (run.now.end - from, place) ∷ []) × (slice_get sets.new.keys place ≡ Some run.now.set)) }
+    ensures runs { OnOk result ((place : ℕ) × (runs.new.items ≡ runs.old.items ++ (run.now.end - from, place) ∷ [])
+        × (slice_get sets.new.keys place ≡ Some run.now.set)) }
 {
     let (place, _) = sets.insert_full(run.set.clone()?)?;
     runs.push((u64::from(run.end.saturating_sub(from)), place))?;

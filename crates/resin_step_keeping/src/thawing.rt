@@ -21,12 +21,12 @@ use resin_step_parts::under::store::policies_of;
 use resin_step_parts::under::value::{Arr, Key, Value};
 use std::alloc::Global;
 
-/// The text that a read makes of an entry: its bytes, each with an object for each of its policies. TextTooLong comes exactly where there are more than
-/// 16,777,216 bytes, else BadShadow where the shadow text isn't one of so many bytes, at the running line, which is 0 where no statement runs.
+/// The text that a read makes of an entry: its bytes, each with an object for each of its policies. TextTooLong comes exactly where there are more
+/// than 16,777,216 bytes, else BadShadow where the shadow text isn't one of so many bytes, at the running line, which is 0 where no statement runs.
 ///
-/// Each policy text of the entry takes a tick, which is charged before the first object is made; then each is one object, in the order of the shadow's table,
-/// made without a constructor. Where its class is declared, is under `Policy` and isn't `LostPolicy`, the object is of that class and has its fields; else it is
-/// a `LostPolicy` that keeps the name of the class in `of` and the fields in `fields`.
+/// Each policy text of the entry takes a tick, which is charged before the first object is made; then each is one object, in the order of
+/// the shadow's table, made without a constructor. Where its class is declared, is under `Policy` and isn't `LostPolicy`, the object is of
+/// that class and has its fields; else it is a `LostPolicy` that keeps the name of the class in `of` and the fields in `fields`.
 pub fn thaw_entry(alloc: Global, m: &mut Machine, entry: &Entry) -> Result<LText, Stop>
     ensures { Runs (meaning.thaw_entry (lift entry.now)) m.old result m.new }
 {
@@ -59,8 +59,8 @@ fn thaw_marked(
     Ok(text)
 }
 
-/// The sets of objects that bytes with these policies carry, each once, in the order in which they first occur. The objects are charged and made as those of an
-/// entry are, though no text is made of the bytes: there may be more of them than a text has.
+/// The sets of objects that bytes with these policies carry, each once, in the order in which they first occur. The objects are charged and
+/// made as those of an entry are, though no text is made of the bytes: there may be more of them than a text has.
 pub fn thaw_sets(alloc: Global, m: &mut Machine, runs: &FrozenRuns) -> Result<Vec<PSet>, Stop>
     ensures { Runs (meaning.thaw_sets runs.now) m.old (on_ok (λ v. v.items) result) m.new }
 {

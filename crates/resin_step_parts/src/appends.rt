@@ -33,7 +33,8 @@ fn text_length(m: &Machine, name: &[u8]) -> Option<usize>
 fn charge_joint(m: &mut Machine, first: usize, second: usize) -> Result<(), Stop>
     requires first_short { first ≤ LONGEST }
     requires second_short { second ≤ LONGEST }
-    ensures does { (a b : LabelledText) → length a ≡ first → length b ≡ second → Runs (joint (text_tree a) (text_tree b)) m.old (on_ok (λ _. AnyValue.Text (a ++ b)) result) m.new }
+    ensures does { (a b : LabelledText) → length a ≡ first → length b ≡ second
+        → Runs (joint (text_tree a) (text_tree b)) m.old (on_ok (λ _. AnyValue.Text (a ++ b)) result) m.new }
     ensures same { OnOk result (m.new ≡ record m.old { ticks = m.new.ticks }) }
     ensures short { OnOk result (first + second ≤ LONGEST) }
 {
@@ -68,7 +69,8 @@ fn put_longer(
 
 // Puts a text behind the one that a variable holds: in its place where none else holds that.
 fn extend(alloc: Global, m: &mut Machine, name: &[u8], more: &LText) -> Result<Value, Stop>
-    ensures acts { (x : LabelledText) → variable name.now m.old ≡ Some (AnyValue.Text x) → ActsLoosely (put name.now (AnyValue.Text (x ++ more.now))) m.old result m.new }
+    ensures acts { (x : LabelledText) → variable name.now m.old ≡ Some (AnyValue.Text x)
+        → ActsLoosely (put name.now (AnyValue.Text (x ++ more.now))) m.old result m.new }
 {
     match m.take(name) {
         Value::Text(text) => put_longer(alloc, m, name, text, more),

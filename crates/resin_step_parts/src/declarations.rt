@@ -38,7 +38,8 @@ fn declare(m: &mut Machine, item: &Item) -> Result<(), Stop>
     }
 }
 
-/// Declares the functions and classes of a file, in their order, each at its own line. Redeclared comes where a name is taken, and UndefinedClass where a parent isn't there.
+/// Declares the functions and classes of a file, in their order, each at its own line. Redeclared comes where a name is taken, and
+/// UndefinedClass where a parent isn't there.
 pub fn declare_all(m: &mut Machine, items: &[Item]) -> Result<(), Stop>
     ensures { Runs (declare_all items.now) m.old result m.new }
 {

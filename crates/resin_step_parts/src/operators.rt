@@ -12,7 +12,8 @@ ghost use Rattle.resin_meaning_forms.specs.Under.target.Reads.{GivesOrNoMemory};
 ghost use Rattle.resin_meaning_forms.specs.Runs.{Runs};
 ghost use Rattle.resin_meaning_forms.specs.Parts.{Evals, charge_both, charged, given, text_cost};
 ghost use Rattle.resin_meaning_forms.specs.Merges.{is_of_class, is_under};
-ghost use Rattle.resin_meaning_forms.specs.Operators.{too_long, concatenated, calculated, combined_by, compare_fault, or_fault, or_spent, compared, equal, identical, order, labelled, sign_of, own_set, fits, instance_of};
+ghost use Rattle.resin_meaning_forms.specs.Operators.{too_long, concatenated, calculated, combined_by, compare_fault, or_fault, or_spent};
+ghost use Rattle.resin_meaning_forms.specs.Operators.{compared, equal, identical, order, labelled, sign_of, own_set, fits, instance_of};
 
 use crate::reads::{number, text_cost, text_stop};
 use resin_meaning_forms::under::heap::PreludeClass;

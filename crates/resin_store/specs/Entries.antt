@@ -34,7 +34,8 @@ abbrev pub written : Version → Marks → List ℕ
 written First v = written1 v
 written Second v = written2 v
 
--- an entry: good, as bytes with their sets and the version of the shadow text that tells these, or damaged, as the bytes and the shadow text that are held
+-- an entry: good, as bytes with their sets and the version of the shadow text that tells these, or damaged, as the bytes and the shadow
+-- text that are held
 pub data LabelledEntry : Type 0 where
   Good : Marked → Version → LabelledEntry
   Bad : List ℕ → List ℕ → LabelledEntry

@@ -6,8 +6,8 @@ use resin_base::Entry;
 use resin_shadow::{FrozenRuns, decode};
 use std::alloc::{AllocError, Global};
 
-/// The policies that the bytes of an entry carry, as its shadow text tells them. `None` exactly where the entry is damaged: the shadow text isn't one of so
-/// many bytes.
+/// The policies that the bytes of an entry carry, as its shadow text tells them. `None` exactly where the entry is damaged: the shadow text
+/// isn't one of so many bytes.
 pub fn policies_of(alloc: Global, entry: &Entry) -> Result<Option<FrozenRuns>, AllocError>
     ensures { IfOk result (λ found. found ≡ marks_in (lift entry.now)) }
 {

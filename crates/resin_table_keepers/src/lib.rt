@@ -1,5 +1,5 @@
-//! What the programs share that print the answers of sites and runs over keepers: how texts, failing calls, tables and rows are spelled in a field, and how
-//! what is kept is printed.
+//! What the programs share that print the answers of sites and runs over keepers: how texts, failing calls, tables and rows are spelled in
+//! a field, and how what is kept is printed.
 #![tactic(auto)]
 
 mod fails;

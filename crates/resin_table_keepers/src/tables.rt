@@ -22,8 +22,8 @@ fn columns_in(alloc: Global, words: &str) -> Result<Columns, AllocError> {
     Ok(columns)
 }
 
-/// Makes the table of a field: its name and its columns, with spaces between them. `:INTEGER` may stand behind a column's name; without it its cells are
-/// texts. A table that is there already stays as it is.
+/// Makes the table of a field: its name and its columns, with spaces between them. `:INTEGER` may stand behind a column's name; without it
+/// its cells are texts. A table that is there already stays as it is.
 ///
 /// # Errors
 ///
@@ -63,8 +63,8 @@ fn cells_in(alloc: Global, words: &str) -> Result<Cells, AllocError> {
     Ok(cells)
 }
 
-/// Puts the row of a field last into its table: the table's name, a space, and the cells with `~` between them. A cell is `i` and an integer, `t` and a
-/// text, or else NULL.
+/// Puts the row of a field last into its table: the table's name, a space, and the cells with `~` between them. A cell is `i` and an
+/// integer, `t` and a text, or else NULL.
 ///
 /// # Errors
 ///

@@ -1,8 +1,8 @@
-//! What the programs share that print the answers of other crates, a row a line: the fields of a row, how bytes and numbers are spelled there, and the line
-//! that is printed.
+//! What the programs share that print the answers of other crates, a row a line: the fields of a row, how bytes and numbers are spelled
+//! there, and the line that is printed.
 //!
-//! What prints into a line answers nothing, and a field that is no number makes the row unreadable, which is printed behind all else: so the functions of such
-//! a program have few ways out, and little is to be proved of them.
+//! What prints into a line answers nothing, and a field that is no number makes the row unreadable, which is printed behind all else: so
+//! the functions of such a program have few ways out, and little is to be proved of them.
 #![tactic(auto)]
 
 mod line;

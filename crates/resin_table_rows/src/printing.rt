@@ -51,8 +51,8 @@ fn push_row<A: FnOnce(Row<'_>, &mut Line)>(
     Ok(())
 }
 
-/// The row as it stands, and behind it what `push_answer` puts there, by the fields between `|`. A row that begins with `#` stands alone, and behind one in
-/// which a field that had to be a number is none stands `Unreadable`.
+/// The row as it stands, and behind it what `push_answer` puts there, by the fields between `|`. A row that begins with `#` stands alone,
+/// and behind one in which a field that had to be a number is none stands `Unreadable`.
 pub fn answered_row<A: FnOnce(Row<'_>, &mut Line)>(
     alloc: Global,
     row: &str,

@@ -37,8 +37,8 @@ pub fn spelled(s: &[u8]) -> (u8, usize)
     }
 }
 
-/// The bytes that a field spells: `\s`, `\n`, `\r`, `\t` and `\xhh` stand for a space, the line ends, a tab and the byte of two digits, and a backslash in
-/// front of another byte for that byte.
+/// The bytes that a field spells: `\s`, `\n`, `\r`, `\t` and `\xhh` stand for a space, the line ends, a tab and the byte of two digits, and
+/// a backslash in front of another byte for that byte.
 pub fn bytes_in(alloc: Global, field: &str) -> Result<Vec<u8>, AllocError> {
     let bytes = field.as_bytes();
     let mut out = Vec::new(alloc);

@@ -19,7 +19,8 @@ matched_parts haystack needle = map (λ start. (start, start + length needle)) (
 abbrev pub AreLeftmost : ℕ → List (ℕ × ℕ) → List ℕ → List ℕ → Type 0
 AreLeftmost from [] haystack needle = Nowhere (OccursAt haystack needle) from (length haystack + 1)
 AreLeftmost from (p ∷ ps) haystack needle =
-    OccursAt haystack needle p.0 × Nowhere (OccursAt haystack needle) from p.0 × (from ≤ p.0) × (p.1 ≡ p.0 + length needle) × AreLeftmost p.1 ps haystack needle
+    OccursAt haystack needle p.0 × Nowhere (OccursAt haystack needle) from p.0 × (from ≤ p.0) × (p.1 ≡ p.0 + length needle)
+    × AreLeftmost p.1 ps haystack needle
 
 -- what stands round the parts: the text from a place on up to the first part, between neighbours, and behind the last
 abbrev pub pieces_round : ℕ → List (ℕ × ℕ) → Text → List Text

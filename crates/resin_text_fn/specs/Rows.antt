@@ -1,6 +1,7 @@
 -- The text functions (PHP manual, "String Functions", in this project's profile), over lists of a byte and its set. A byte that is copied keeps
 -- its set.
-use Rattle.std.specs.Prelude.{ℕ, ℤ, pos, negsuc, ◌+◌, ◌-◌, ◌/◌, min, max, Bool, ◌==◌, nat_eq, nat_lt, nat_le, if◌then◌else◌, List, [], ◌∷◌, ◌++◌, map, reverse, length, take, drop, Option, Some, None, option_map, is_some, unwrap_or, Result, Ok, Err}
+use Rattle.std.specs.Prelude.{ℕ, ℤ, pos, negsuc, ◌+◌, ◌-◌, ◌/◌, min, max, Bool, ◌==◌, nat_eq, nat_lt, nat_le, if◌then◌else◌, List, [], ◌∷◌}
+use Rattle.std.specs.Prelude.{◌++◌, map, reverse, length, take, drop, Option, Some, None, option_map, is_some, unwrap_or, Result, Ok, Err}
 use Rattle.std.specs.Ordering.{int_eq}
 use Rattle.std.specs.List.{slice_get, slice_range, prefix_len, suffix_len, list_any, repeat, join_by, starts_with, ends_with}
 use Rattle.std.specs.Char.{to_ascii_uppercase, to_ascii_lowercase}

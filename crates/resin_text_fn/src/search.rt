@@ -4,7 +4,8 @@ ghost use Rattle.resin_lstr.specs.declared.limits.TheConstants.{LONGEST};
 ghost use Rattle.resin_lstr.specs.Texts.{ArePartsFrom};
 ghost use Rattle.resin_text_fn.specs.Matches.{first_place, last_place, matched_parts, AreLeftmost};
 ghost use Rattle.memchr.specs.Find.{FindsNeedle, FindsLastNeedle};
-ghost use Rattle.resin_text_fn.specs.Rows.{offset_place, strpos, strrpos, str_contains, str_starts_with, str_ends_with, substr_count, sign_of, strcmp};
+ghost use Rattle.resin_text_fn.specs.Rows.{offset_place, strpos, strrpos, str_contains, str_starts_with};
+ghost use Rattle.resin_text_fn.specs.Rows.{str_ends_with, substr_count, sign_of, strcmp};
 
 use memchr::memmem;
 use resin_lstr::{LText, Parts};

@@ -1,5 +1,6 @@
 -- What stands at the front of a text, worked out byte by byte.
-use Rattle.std.specs.Prelude.{◌≡◌, ◌≤◌, ◌<◌, ℕ, suc, ◌+◌, ◌-◌, ◌*◌, Bool, ◌&&◌, ◌||◌, ◌==◌, nat_le, nat_lt, List, [], ◌∷◌, length, take, drop, get_or, if◌then◌else◌, codes}
+use Rattle.std.specs.Prelude.{◌≡◌, ◌≤◌, ◌<◌, ℕ, suc, ◌+◌, ◌-◌, ◌*◌, Bool, ◌&&◌, ◌||◌, ◌==◌, nat_le, nat_lt}
+use Rattle.std.specs.Prelude.{List, [], ◌∷◌, length, take, drop, get_or, if◌then◌else◌, codes}
 use Rattle.resin_trace.specs.declared.event.TraceEvent.{TraceEvent}
 use Rattle.resin_trace.specs.declared.event.TraceEvent.TheVariants.{Piece, End}
 use Rattle.resin_trace.specs.declared.scan.Scan.{Scan}
