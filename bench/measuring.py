@@ -16,7 +16,9 @@ from resin_tools.records import end_text, piece_text, read_answers  # noqa: E402
 from resin_tools.responses import Response, read_response  # noqa: E402
 
 FUEL = 100_000_000
-CALLGRIND = ("valgrind", "--tool=callgrind", "--callgrind-out-file=/dev/null")
+LOOPS = "GLIBC_TUNABLES=glibc.cpu.x86_rep_stosb_threshold=1000000000:glibc.cpu.x86_rep_movsb_threshold=1000000000"
+"""Has the C library fill and copy memory by loops: callgrind counts each byte of a `rep stosb` or `rep movsb` as an instruction."""
+CALLGRIND = ("env", LOOPS, "valgrind", "--tool=callgrind", "--callgrind-out-file=/dev/null")
 
 
 @dataclass(frozen=True)
