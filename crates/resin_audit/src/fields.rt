@@ -8,6 +8,7 @@ ghost use Rattle.resin_audit.specs.Read.{Takes, TakesField, TakesNext, NamesFiel
 
 use crate::rest::split_once;
 use itoa::Buffer;
+use resin_bytes::capped_value;
 use resin_journal::Channel;
 use resin_scan::bytes::{begins_name, is_name_byte};
 use std::marker::Model;
@@ -97,7 +98,7 @@ impl<'a> Fields<'a> {
 fn number(field: &[u8], most: u64) -> Option<u64>
     ensures { result ≡ spec.number most field.now }
 {
-    let value = value(field);
+    let value = capped_value(field);
     let mut buffer = Buffer::new();
     if value <= most && field == buffer.format(value).as_bytes() {
         Some(value)
@@ -112,19 +113,6 @@ fn object(field: &[u8]) -> Option<u32>
 {
     let number = number(field, u64::from(u32::MAX))?;
     Some(number as u32)
-}
-
-// What digits spell, or the largest number of 64 bits where that is larger.
-fn value(digits: &[u8]) -> u64
-    ensures { result ≡ spec.value digits.now }
-{
-    let mut value: u64 = 0;
-    for digit in digits {
-        value = value
-            .saturating_mul(10)
-            .saturating_add(u64::from(digit.saturating_sub(b'0')));
-    }
-    value
 }
 
 // The channel that a field names.

@@ -4,7 +4,7 @@ use Rattle.std.proofs.lemmas.List.{take_at}
 use Rattle.resin_base.specs.declared.faults.KeepFault.{KeepFault}
 use Rattle.resin_base.specs.declared.faults.KeepFault.TheVariants.{Failed, Memory}
 use Rattle.resin_base.specs.declared.calls.Calls.{Calls}
-use Rattle.resin_base.specs.Numbering.{RiseWithin, Lists, IsAsked, Settles}
+use Rattle.resin_base.specs.Numbering.{RiseWithin, Lists, IsAsked, AreAsked, AreNumbered, Settles}
 
 -- the list without the number that was put last
 taken_off : (xs ys : List ℕ) (x : ℕ) → ys ≡ xs ++ x ∷ [] → take (length ys - 1) ys ≡ xs
@@ -38,5 +38,12 @@ asked made before now rise is = (
   rw (taken_off before now _ is) rise,
   rw is (RiseWithin-push 0 made before (omega arith) rise),
 )
+
+-- numbers in order stay so where the call that was listed is settled
+pub numbered_settled : {A : Type 0} (asked : Calls) (answer : Result A KeepFault) (new : Calls)
+    → AreAsked asked → Settles asked answer new → AreNumbered new
+numbered_settled asked (Ok a) new order settle = rw settle.0 (rw settle.1 (RiseWithin-more 0 asked.made _ order.1))
+numbered_settled asked (Err Failed) new order settle = rw settle.0 (rw settle.1 order.2)
+numbered_settled asked (Err Memory) new order settle = rw settle.0 (rw settle.1 order.1)
 
 pub ruleset numbering = (lists_settled)

@@ -39,12 +39,22 @@ impl Calls {
         Ok(())
     }
 
-    // Counts the call that was listed, by its answer, and takes its number off unless it failed.
+    // Counts the call that was listed. The numbers stay in order.
     fn settle<A>(&mut self, answer: &Result<A, KeepFault>)
         requires room { self.old.made < 2 ^ 64 - 1 }
         requires asked { AreAsked self.old }
         ensures settled { Settles self.old answer.now self.new }
         ensures numbered { AreNumbered self.new }
+    {
+        self.count(answer);
+    }
+
+    /// Counts the call whose number was listed last, by its answer, and takes that number off unless the call failed. A call that found no
+    /// memory isn't counted.
+    pub fn count<A>(&mut self, answer: &Result<A, KeepFault>)
+        requires room { self.old.made < 2 ^ 64 - 1 }
+        requires listed { 0 < length self.old.failed }
+        ensures { Settles self.old answer.now self.new }
     {
         match answer {
             Ok(_) => {

@@ -79,8 +79,8 @@ fn called(
     Ok(answer)
 }
 
-// What a value costs that a call takes or gives.
-fn cost(value: &Value) -> u64
+/// What a value costs that a call takes or gives: a tick for each 256 bytes of a text, and one for each entry of an array.
+pub fn cost(value: &Value) -> u64
     ensures { result ≡ cost (tree_of value.now) }
 {
     match value {

@@ -20,7 +20,8 @@ pub mod under;
 mod value_rows;
 
 pub use builtin::{Builtin, Digest, OneArray, OneInteger, OneText, Test, TrimSide, TwoTexts};
-pub use calls::call;
+pub use calls::{call, cost};
 pub use names::builtin_named;
 pub use resin_format::int_places;
 pub use signatures::{ArgKind, Sig, signature};
+pub use turns::turned_into;

@@ -28,7 +28,9 @@ impl Sig {
     }
 }
 
-fn turned_into(alloc: Global, kind: ArgKind, value: &Value) -> Result<Value, CallStop>
+/// A value as this kind, as `Sig::turned` turns it: TypeError is thrown exactly where the kind doesn't take the value; FloatNeeded comes exactly for
+/// a text in a float form where an integer is wanted.
+pub fn turned_into(alloc: Global, kind: ArgKind, value: &Value) -> Result<Value, CallStop>
     ensures { GivesOrNoMemory (seen_answer result) (turned_into kind (tree_of value.now)) }
 {
     match kind {

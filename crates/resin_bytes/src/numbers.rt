@@ -71,8 +71,8 @@ pub(crate) fn integer(negative: bool, digits: &[u8]) -> NumberForm
     }
 }
 
-// The number below 0 that is as far from it.
-fn negated(value: u64) -> i64
+/// The number below 0 that is as far from it, which is at most 2^63.
+pub fn negated(value: u64) -> i64
     requires { value ≤ 2 ^ 63 }
     ensures { result ≡ neg_ℤ (pos value) }
 {
@@ -83,8 +83,9 @@ fn negated(value: u64) -> i64
     }
 }
 
-// The number that digits spell, or the largest of 64 bits where it is larger.
-fn capped_value(digits: &[u8]) -> u64
+/// The number that digits spell, or the largest of 64 bits where it is larger. Only digits may stand there: what it makes of other bytes serves
+/// nobody.
+pub fn capped_value(digits: &[u8]) -> u64
     ensures { result ≡ min (decimal_value digits.now) (2 ^ 64 - 1) }
 {
     let mut value: u64 = 0;

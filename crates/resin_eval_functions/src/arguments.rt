@@ -13,7 +13,9 @@ ghost use Rattle.std.specs.Prelude.{Some, [], false, ◌≡◌, ◌∷◌};
 
 use resin_eval_merges::merges::Merger;
 use resin_eval_merges::under::base::{Files, Tables};
-use resin_eval_merges::under::builtin::{ArgKind, Builtin, Sig, int_places, signature};
+use resin_eval_merges::under::builtin::{
+    ArgKind, Builtin, Sig, cost, int_places, signature, turned_into,
+};
 use resin_eval_merges::under::eval_nested::nested::{Evaluator, Nested, Outcome};
 use resin_eval_merges::under::eval_nested::run::Run;
 use resin_eval_merges::under::label::PSet;
@@ -23,7 +25,7 @@ use resin_eval_merges::under::meaning_forms::StateFunction;
 use resin_eval_merges::under::ops::to_int;
 use resin_eval_merges::under::scalar::ScriptFault;
 use resin_eval_merges::under::step_functions::functions::{
-    cost, kinds_of, miscounted, place, take_all, turned_into, work,
+    kinds_of, miscounted, place, take_all, work,
 };
 use resin_eval_merges::under::step_functions::policies::state_work;
 use resin_eval_merges::under::step_parts::values::ruled;

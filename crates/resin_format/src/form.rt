@@ -1,7 +1,9 @@
 //! What stands behind a `%` in a format.
 ghost use Rattle.std.specs.Prelude.{◌≡◌, ◌<◌, ◌≤◌, ◌+◌, ◌-◌, ◌^◌, min, length, if◌then◌else◌, MatchOption, OnSome, Some, None};
-ghost use Rattle.resin_bytes.specs.Numbers.{digits_len, decimal_value};
+ghost use Rattle.resin_bytes.specs.Numbers.{digits_len};
 ghost use Rattle.resin_format.specs.Forms.{is_integer, begins_with, behind, kind_of, width_of, conversion_of, form_of, form_len};
+
+use resin_bytes::capped_value;
 
 /// How an argument is read and written: a text, an integer in decimal, or the 64 bits of an integer in hexadecimal.
 #[derive(Clone, Copy, Debug, PartialEq, Eq)]
@@ -130,19 +132,6 @@ fn read_width(digits: &[u8]) -> Option<u32>
     } else {
         None
     }
-}
-
-// The number that digits spell, or the largest of 64 bits where it is larger.
-fn capped_value(digits: &[u8]) -> u64
-    ensures { result ≡ min (decimal_value digits.now) (2 ^ 64 - 1) }
-{
-    let mut value: u64 = 0;
-    for digit in digits {
-        value = value
-            .saturating_mul(10)
-            .saturating_add(u64::from(digit.saturating_sub(b'0')));
-    }
-    value
 }
 
 fn read_kind(bytes: &[u8]) -> Option<Kind>

@@ -1,11 +1,12 @@
 //! The bytes of a text that are left, and what can be read from their front.
-ghost use Rattle.std.specs.Prelude.{◌≡◌, ◌≤◌, ◌^◌, nat_eq, pos, neg_ℤ};
+ghost use Rattle.std.specs.Prelude.{◌≡◌, nat_eq};
 ghost use Rattle.std.specs.List.{position};
 ghost use Rattle.resin_frozen.specs.Reading as spec;
 ghost use Rattle.resin_frozen.specs.Reads.{Reads, Lends, Is};
 
 use crate::stop::Stop;
 use itoa::Buffer;
+use resin_value::under::bytes::{capped_value, negated};
 use std::marker::Model;
 
 /// The bytes of a text that are left.
@@ -126,11 +127,11 @@ fn place_of(bytes: &[u8], wanted: u8) -> Option<usize>
 }
 
 /// The number of 64 bits that a word is, in decimal without a zero in front.
-#[tactic(auto, unfolding(crate::specs::Reading::number))]
+#[tactic(auto, unfolding(crate::specs::Reading::number, crate::specs::Reading::value_of))]
 pub fn number(word: &[u8]) -> Result<u64, Stop>
     ensures { Is (spec.number word.now) result }
 {
-    let value = value_of(word);
+    let value = capped_value(word);
     let mut buffer = Buffer::new();
     if word == buffer.format(value).as_bytes() {
         Ok(value)
@@ -154,38 +155,12 @@ fn signed(word: &[u8]) -> Result<i64, Stop>
 }
 
 // What digits behind a `-` or nothing spell, or the nearest number of 64 bits with a sign.
-#[tactic(auto, unfolding(crate::specs::Reading::signed_of))]
+#[tactic(auto, unfolding(crate::specs::Reading::signed_of, crate::specs::Reading::value_of))]
 fn signed_of(word: &[u8]) -> i64
     ensures { result ≡ spec.signed_of word.now }
 {
     match word {
-        [first, digits @ ..] if *first == b'-' => negated(value_of(digits).min(1 << 63)),
-        _ => value_of(word).min((1 << 63) - 1) as i64,
+        [first, digits @ ..] if *first == b'-' => negated(capped_value(digits).min(1 << 63)),
+        _ => capped_value(word).min((1 << 63) - 1) as i64,
     }
-}
-
-// The number below 0 that is as far from it.
-fn negated(value: u64) -> i64
-    requires { value ≤ 2 ^ 63 }
-    ensures { result ≡ neg_ℤ (pos value) }
-{
-    if value == 0 {
-        0
-    } else {
-        -((value - 1) as i64) - 1
-    }
-}
-
-// What digits spell, or the largest number of 64 bits where that is larger.
-#[tactic(auto, unfolding(crate::specs::Reading::value_of))]
-fn value_of(digits: &[u8]) -> u64
-    ensures { result ≡ spec.value_of digits.now }
-{
-    let mut value: u64 = 0;
-    for digit in digits {
-        value = value
-            .saturating_mul(10)
-            .saturating_add(u64::from(digit.saturating_sub(b'0')));
-    }
-    value
 }

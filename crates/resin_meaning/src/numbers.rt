@@ -26,19 +26,10 @@ pub(crate) fn settle<A>(calls: &mut Calls, answer: Result<A, KeepFault>) -> Resu
     ensures settled { Settles calls.old answer calls.new }
     ensures answer { result ≡ kept answer }
 {
+    calls.count(&answer);
     match answer {
-        Ok(value) => {
-            calls.failed.pop();
-            calls.made += 1;
-            Ok(value)
-        }
-        Err(KeepFault::Failed) => {
-            calls.made += 1;
-            Err(Stop::Keeper)
-        }
-        Err(KeepFault::Memory) => {
-            calls.failed.pop();
-            Err(Stop::Memory)
-        }
+        Ok(value) => Ok(value),
+        Err(KeepFault::Failed) => Err(Stop::Keeper),
+        Err(KeepFault::Memory) => Err(Stop::Memory),
     }
 }

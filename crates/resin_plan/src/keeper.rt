@@ -27,20 +27,11 @@ fn settle<A>(calls: &mut Calls, answer: Result<A, KeepFault>) -> Result<A, SqlSt
     ensures settled { Settles calls.old answer calls.new }
     ensures answer { result ≡ ended answer }
 {
+    calls.count(&answer);
     match answer {
-        Ok(value) => {
-            calls.failed.pop();
-            calls.made += 1;
-            Ok(value)
-        }
-        Err(KeepFault::Failed) => {
-            calls.made += 1;
-            Err(SqlStop::Keeper)
-        }
-        Err(KeepFault::Memory) => {
-            calls.failed.pop();
-            Err(SqlStop::Memory)
-        }
+        Ok(value) => Ok(value),
+        Err(KeepFault::Failed) => Err(SqlStop::Keeper),
+        Err(KeepFault::Memory) => Err(SqlStop::Memory),
     }
 }
 

@@ -1,5 +1,5 @@
-use Rattle.resin_base.proofs.CallNumbers.{RiseWithin-more}
+use Rattle.resin_base.proofs.CallNumbers.{numbered_settled}
 use Rattle.resin_base.proofs.calls.Calls.settle.Goals as goal
 
-pub returns-in-Ok-clause-numbered : goal.returns-in-Ok-clause-numbered
-returns-in-Ok-clause-numbered g c = rw c.pop.ensures (RiseWithin-more 0 _ _ c.requires.asked.1)
+pub returns-clause-numbered : goal.returns-clause-numbered
+returns-clause-numbered g c = numbered_settled _ _ _ c.requires.asked c.count.ensures

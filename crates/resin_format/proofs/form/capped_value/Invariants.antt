@@ -1,7 +1,0 @@
--- The digits before the index spell the value, capped.
-use Rattle.std.proofs.Common.{◌≡◌, ◌^◌, ◌-◌, min, take}
-use Rattle.resin_bytes.specs.Numbers.{decimal_value}
-use Rattle.resin_format.proofs.form.capped_value.Given as goal
-
-abbrev pub invariant-loop-digit : goal.invariant-loop-digit
-invariant-loop-digit l = l.value ≡ min (decimal_value (take l.digit-index l.digits)) (2 ^ 64 - 1)
