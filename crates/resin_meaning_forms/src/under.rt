@@ -4,7 +4,7 @@
 pub mod builtin {
     pub use resin_builtin::{
         ArgKind, Builtin, Digest, OneArray, OneInteger, OneText, Sig, Test, TrimSide, TwoTexts,
-        builtin_named, call, int_places, signature,
+        builtin_named, call, cost, int_places, signature, turned_into,
     };
 }
 
