@@ -83,8 +83,8 @@ pub fn negated(value: u64) -> i64
     }
 }
 
-/// The number that digits spell, or the largest of 64 bits where it is larger. Only digits may stand there: what it makes of other bytes serves
-/// nobody.
+/// The number that digits spell, or the largest of 64 bits where it is larger. A byte counts by how far it stands behind `0`, or for 0 before it: who
+/// doesn't know that only digits stand there compares with the number written.
 pub fn capped_value(digits: &[u8]) -> u64
     ensures { result ≡ min (decimal_value digits.now) (2 ^ 64 - 1) }
 {

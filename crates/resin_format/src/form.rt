@@ -1,5 +1,5 @@
 //! What stands behind a `%` in a format.
-ghost use Rattle.std.specs.Prelude.{◌≡◌, ◌<◌, ◌≤◌, ◌+◌, ◌-◌, ◌^◌, min, length, if◌then◌else◌, MatchOption, OnSome, Some, None};
+ghost use Rattle.std.specs.Prelude.{◌≡◌, ◌<◌, ◌≤◌, ◌+◌, length, if◌then◌else◌, MatchOption, OnSome, Some, None};
 ghost use Rattle.resin_bytes.specs.Numbers.{digits_len};
 ghost use Rattle.resin_format.specs.Forms.{is_integer, begins_with, behind, kind_of, width_of, conversion_of, form_of, form_len};
 
